@@ -1,0 +1,4 @@
+pub mod Lifted
+pub mod Chosen
+pub mod Plain
+pub mod Groupings

@@ -1,0 +1,9 @@
+pub mod Moves
+pub mod Stacks
+pub mod Growth
+pub mod Limits
+pub mod Noting
+pub mod Names
+pub mod Spreading
+pub mod Depending
+pub mod Fitting

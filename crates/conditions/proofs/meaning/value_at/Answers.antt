@@ -1,0 +1,7 @@
+use mathlib.Core.Path.{sym}
+use lib.IntN.{pos}
+use Rattle.std.proofs.shelf.Lists.{getD-past}
+use Rattle.conditions.proofs.meaning.value_at.Needs as need
+
+pub returns-else-i-row : need.returns-else-i-row
+returns-else-i-row c = sym (getD-past (c .args .row .now) (c .args .i) (pos 0) (c .if-i-row .left))

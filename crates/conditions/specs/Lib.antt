@@ -1,0 +1,7 @@
+pub mod Trees
+pub mod Postfix
+pub mod Meaning
+pub mod Keys
+pub mod Machine
+pub mod Promises
+pub mod Theorems

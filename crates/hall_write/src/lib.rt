@@ -1,0 +1,4 @@
+// Writing a hall file into a lent buffer.
+pub mod length;
+mod put;
+pub mod write;

@@ -1,0 +1,5 @@
+pub mod Values
+pub mod Bytes
+pub mod Answers
+pub mod Meaning
+pub mod Kinds

@@ -1,0 +1,4 @@
+pub mod Pairing
+pub mod Motions
+pub mod Asking
+pub mod Whole

@@ -1,0 +1,4 @@
+pub mod Lines
+pub mod Drafts
+pub mod Machine
+pub mod Promises

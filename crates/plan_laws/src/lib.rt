@@ -1,0 +1,2 @@
+// What is shown of plans above their definitions.
+pub mod theorems;

@@ -1,0 +1,4 @@
+pub mod Lexemes
+pub mod Spots
+pub mod Cutting
+pub mod Tables
