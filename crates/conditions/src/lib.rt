@@ -1,4 +1,6 @@
 // Conditions on a row and a base row: what they say, how they are evaluated, and how they are read.
+#![tactic(auto)]
+
 pub mod condition;
 pub mod keys;
 pub mod meaning;

@@ -1,4 +1,6 @@
 // Where rows come from: feeds of rows that end clean or at a fault.
+#![tactic(auto)]
+
 pub mod exhaust;
 pub mod fault;
 pub mod feed;

@@ -1,4 +1,6 @@
 // Runs the feeds on sheets, lists and sections, and prints what came.
+#![tactic(auto)]
+
 use feeds::exhaust::exhaust;
 use feeds::fault::Layer;
 use feeds::feed::Feed;

@@ -1,5 +1,7 @@
 // How fast groups are found, joined, sorted and linked: a million contributions by a fixed generator
 // into 50,000 groups and into 65,535. The checksums go to standard output, the times to standard error.
+#![tactic(auto)]
+
 use cells::cell::Cell;
 use cells::id::GroupId;
 use cells::place::Place;

@@ -1,4 +1,6 @@
 // Groups tried with no place, one place and all places full, at several measures.
+#![tactic(auto)]
+
 use any_measure::any::AnyMeasure;
 use cells::cell::Cell;
 use cells::id::GroupId;

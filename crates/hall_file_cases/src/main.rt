@@ -1,5 +1,7 @@
 // Judges files and other bytes, and every single byte of a file changed; tools/hall_file_cases.py made the
 // cases, and judges them independently.
+#![tactic(auto)]
+
 mod cases;
 
 use any_measure::any::AnyMeasure;

@@ -1,5 +1,7 @@
 // What is counted over result rows: row values, measures and their laws, the five kinds of measure,
 // and the one that picks a kind at run time.
+#![tactic(auto)]
+
 pub mod answer;
 mod bytes;
 pub mod count;

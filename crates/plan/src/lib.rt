@@ -1,4 +1,6 @@
 // The plan of a tally: which fields a row and a base row have, and what the columns are.
+#![tactic(auto)]
+
 pub mod columns;
 pub mod lines;
 pub mod plan;

@@ -1,6 +1,8 @@
 // Reads plans, each on a line of its own behind what it should give, and tells which give something else.
 // A line has three numbers and the plan's text, with `|` for a line feed. The numbers are those of the refusal (number,
 // line, word); for a plan that is accepted they are 0, how many row names and how many columns it has.
+#![tactic(auto)]
+
 ghost use Rattle.std.specs.Prelude.{◌≤◌};
 
 use plan::reading::read_plan;

@@ -1,2 +1,4 @@
 // What is shown of plans above their definitions.
+#![tactic(auto)]
+
 pub mod theorems;

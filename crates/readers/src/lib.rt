@@ -1,5 +1,7 @@
 // Readers of bytes that answer what is read and the bytes after it: their meaning, the law that a reader
 // reads just what is written, and the two smallest, for numbers of two and of four bytes.
+#![tactic(auto)]
+
 ghost use Rattle.std.specs.Prelude.{◌≡◌};
 ghost use Rattle.readers.specs.Readers.{number};
 ghost use Rattle.readers.specs.Seen.{seen};

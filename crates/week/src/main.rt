@@ -1,4 +1,6 @@
 // One hall's week, told from beginning to end: the plan, the early games, their standing, and the file of their groups.
+#![tactic(auto)]
+
 mod file;
 mod games;
 mod standing;

@@ -3,4 +3,4 @@ use native.Mathlib.Nat.{div-div-eq-div-mul}
 use Rattle.measures.proofs.bytes.word_bytes.Goals as goal
 
 pub returns : goal.returns
-returns c = simp div-div-eq-div-mul c.to-le-bytes.ensures
+returns c = simp div-div-eq-div-mul c.to_le_bytes.ensures

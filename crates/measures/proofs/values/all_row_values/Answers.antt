@@ -9,7 +9,7 @@ use Rattle.measures.proofs.values.all_row_values.Goals as goal
 pub loop-value-preserved : goal.loop-value-preserved
 loop-value-preserved c =
     let e = all_row_values_drop c.args.values.now c.loop-value.value-index c.loop-value-test.true in
-    let t = c.if-not-is-row-value.ensures in
+    let t = c.if-not-is_row_value.ensures in
     let f : SFits w32 (get_or c.args.values.now c.loop-value.value-index (pos 0)) = search rules in
     grind (arith, to_z-of_z)
 
