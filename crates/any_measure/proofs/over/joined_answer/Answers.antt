@@ -5,8 +5,8 @@ use Rattle.any_measure.specs.Chosen.{chosen}
 use Rattle.any_measure.proofs.Plainly.{list_is_plain}
 use Rattle.any_measure.proofs.over.joined_answer.Goals as goal
 
-pub overflow-cast-values : goal.overflow-cast-values
-overflow-cast-values c = omega (arith, leb-true (length c.args.values.now) 1000000 (and_parts _ _ c.requires).0)
+pub overflow_cast-values : goal.overflow_cast-values
+overflow_cast-values c = omega (arith, leb-true (length c.args.values.now) 1000000 (and_parts _ _ c.requires).0)
 
 pub returns : goal.returns
 returns c =

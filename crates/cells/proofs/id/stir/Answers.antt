@@ -7,4 +7,4 @@ use Rattle.cells.proofs.id.stir.Goals as goal
 
 pub returns : goal.returns
 unfolding stirred
-returns c = ap (λ u. folded ((bit_xor c.args.h u * 0x9E3779B97F4A7C15) % 2 ^ 64)) (c.from.ensures ∙ c.cast-unsigned.ensures ∙ ap (of_z w32) (to_z-of_z w32 c.args.v c.ranges.v))
+returns c = ap (λ u. folded ((bit_xor c.args.h u * 0x9E3779B97F4A7C15) % 2 ^ 64)) (c.from.ensures ∙ c.cast_unsigned.ensures ∙ ap (of_z w32) (to_z-of_z w32 c.args.v c.ranges.v))

@@ -10,12 +10,12 @@ use Rattle.conditions.proofs.Limits.{keeps_limits}
 use Rattle.conditions.proofs.Noting.{notes_fields}
 use Rattle.conditions.proofs.reading.read_condition.Goals as goal
 
-pub returns-in-err-condition : goal.returns-in-err-condition
+pub returns-in_err-condition : goal.returns-in_err-condition
 unfolding rest condition_of
-returns-in-err-condition c =
+returns-in_err-condition c =
     let y = err_from_is_err_and c.from-residual.result c.from-residual.ensures.1 in
     record {
-      value = subst (Gave (condition_of (looks c.args.names.now) (here c.args.words.now) (to_come c.args.words.now)) c.args.words.now c.args.words.now) (sym (y.1 ∙ ap Err y.2)) (sym c.in-err-condition.ensures.value, refl);
+      value = subst (Gave (condition_of (looks c.args.names.now) (here c.args.words.now) (to_come c.args.words.now)) c.args.words.now c.args.words.now) (sym (y.1 ∙ ap Err y.2)) (sym c.in_err-condition.ensures.value, refl);
       fields = IfOk-from_err c.from-residual.result _ c.from-residual.ensures.0;
       limits = IfOk-from_err c.from-residual.result _ c.from-residual.ensures.0;
     }
@@ -23,11 +23,11 @@ returns-in-err-condition c =
 pub returns : goal.returns
 unfolding rest condition_of
 returns c =
-    let e = sym c.in-ok-condition.ensures.value in
+    let e = sym c.in_ok-condition.ensures.value in
     let n = notes_fields (looks c.args.names.now) (looks_known c.args.names.now) (here c.args.words.now) (to_come c.args.words.now) _ _ _ _ e in
     let k = keeps_limits (looks c.args.names.now) (here c.args.words.now) (to_come c.args.words.now) _ _ _ _ e in
     record {
-      value = (tree c.in-ok-condition.condition, seen_by c.condition.new.self, c.in-ok-condition.ensures.one, refl, e);
+      value = (tree c.in_ok-condition.condition, seen_by c.condition.new.self, c.in_ok-condition.ensures.one, refl, e);
       fields = λ t one. (n.0, λ f. n.1 f ∙ ap (λ u. reads f u) (ap topmost one));
       limits = λ t one. subst (λ u. (comparisons u ≤ 16) × Within 8 u × (marked c.condition.new.self.fields ≤ 4)) (ap topmost one) (k.1, k.0, n.2);
     }

@@ -9,7 +9,7 @@ loop-rows-preserved g c =
     let e = c.in-Row.ensures in
     let l = c.loop-rows in
     let one = fewer (f.coming l.feed) (f.ending l.feed) (cut (f.wide l.feed) c.in-Row.field-0) e.gives in
-    (omega (arith, one, ap length e.left, c.one-more-rows.ensures, l.invariant.0), e.same.0 ∙ l.invariant.1, e.same.1 ∙ l.invariant.2, omega (arith, c.one-more-rows.ensures))
+    (omega (arith, one, ap length e.left, c.one_more-rows.ensures, l.invariant.0), e.same.0 ∙ l.invariant.1, e.same.1 ∙ l.invariant.2, omega (arith, c.one_more-rows.ensures))
 
 pub loop-rows-smaller : goal.loop-rows-smaller
 loop-rows-smaller g c =

@@ -10,7 +10,7 @@ returns c =
     let f : SFits w32 c.value_at.result = search rules in
     let here = to_z-of_z w32 c.value_at.result f ∙ c.value_at.ensures in
     let there = to_z-of_z w32 v c.ranges.value in
-    c.is-same.ensures ∙ (λ i. same_number (here i) (there i))
+    c.is_same.ensures ∙ (λ i. same_number (here i) (there i))
     ∙ hits_within c.args.field c.args.width v c.args.row.now c.if-field-width.false
 
 pub returns-then-field-width : goal.returns-then-field-width

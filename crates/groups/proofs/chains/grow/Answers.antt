@@ -15,6 +15,6 @@ returns g c =
     let old : (d : _) → (get_or xs i s).cell ≡ get_or (cells_of xs) i d = λ d. sym (get_or-map (λ s. s.cell) xs i s d c.requires) in
     let more : c.grown.result ≡ grown join c.args.new (get_or xs i s).cell = c.grown.ensures in
     record {
-      cells = c.set-cell.ensures.cells ∙ ap (set (cells_of xs) i) (more ∙ ap (grown join c.args.new) (old c.args.new));
-      chained = λ used h. wrote_same xs c.set-cell.new.places i c.grown.result c.set-cell.ensures.cells c.set-cell.ensures.heads c.set-cell.ensures.nexts used c.requires (ap (λ x. x.id) more ∙ ap (λ x. x.id) (old c.grown.result)) h;
+      cells = c.set_cell.ensures.cells ∙ ap (set (cells_of xs) i) (more ∙ ap (grown join c.args.new) (old c.args.new));
+      chained = λ used h. wrote_same xs c.set_cell.new.places i c.grown.result c.set_cell.ensures.cells c.set_cell.ensures.heads c.set_cell.ensures.nexts used c.requires (ap (λ x. x.id) more ∙ ap (λ x. x.id) (old c.grown.result)) h;
     }

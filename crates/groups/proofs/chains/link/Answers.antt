@@ -15,7 +15,7 @@ returns g c =
     let here : get_or (buckets (length xs) (cells_of xs)) i 0 ≡ b =
     bucket_at (length xs) (cells_of xs) i s.cell (omega (arith, length_cells xs)) ∙ ap (λ c. bucket_of c.id (length xs)) (get_or-map (λ s. s.cell) xs i s s.cell c.requires.within) ∙ sym c.bucket-b.ensures.value in
     record {
-      cells = c.set-head.ensures.cells ∙ c.set-next.ensures.cells;
-      chained = linked xs c.set-next.new.places c.set-head.new.places i b _ c.requires.within c.bucket-b.ensures.bound (sym (get_or-map (λ s. s.head) xs b c.index-places-b.result 0 c.bucket-b.ensures.bound))
-          c.set-next.ensures.cells c.set-next.ensures.heads c.set-next.ensures.nexts c.set-head.ensures.cells c.set-head.ensures.heads c.set-head.ensures.nexts here c.requires.chained;
+      cells = c.set_head.ensures.cells ∙ c.set_next.ensures.cells;
+      chained = linked xs c.set_next.new.places c.set_head.new.places i b _ c.requires.within c.bucket-b.ensures.bound (sym (get_or-map (λ s. s.head) xs b c.index-places-b.result 0 c.bucket-b.ensures.bound))
+          c.set_next.ensures.cells c.set_next.ensures.heads c.set_next.ensures.nexts c.set_head.ensures.cells c.set_head.ensures.heads c.set_head.ensures.nexts here c.requires.chained;
     }

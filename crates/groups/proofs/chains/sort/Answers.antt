@@ -6,6 +6,6 @@ use Rattle.groups.proofs.chains.sort.Goals as goal
 
 pub returns : goal.returns
 returns g c = record {
-  live = sort_live c.args.places.now c.sort-places.new.places c.args.used (c.args.used - 0) (omega arith) c.requires.within c.requires.apart c.sort-places.ensures.shuffled (c.sort-places.ensures.ascends (by_id (λ s. s.cell)));
-  rest = sort_rest c.args.places.now c.sort-places.new.places c.args.used (c.args.used - 0) (omega arith) c.requires.within c.requires.apart c.sort-places.ensures.shuffled (c.sort-places.ensures.ascends (by_id (λ s. s.cell)));
+  live = sort_live c.args.places.now c.sort_places.new.places c.args.used (c.args.used - 0) (omega arith) c.requires.within c.requires.apart c.sort_places.ensures.shuffled (c.sort_places.ensures.ascends (by_id (λ s. s.cell)));
+  rest = sort_rest c.args.places.now c.sort_places.new.places c.args.used (c.args.used - 0) (omega arith) c.requires.within c.requires.apart c.sort_places.ensures.shuffled (c.sort_places.ensures.ascends (by_id (λ s. s.cell)));
 }

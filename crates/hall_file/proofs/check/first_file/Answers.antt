@@ -9,25 +9,25 @@ use Rattle.hall_file.proofs.check.first_file.Goals as goal
 laws : (g : Over) → Lawful g.M.Measure.meaning g.M.Measure.found
 laws g = record { keeps = g.met.M.Measure.keeps; formed = g.met.M.Measure.formed; finds = g.met.M.Measure.found_by_its_kind; found-by = g.met.M.Measure.has_the_kind_it_is_found_by }
 
-pub returns-in-err-head : goal.returns-in-err-head
-returns-in-err-head g c = subst (FirstFile g.M.Measure.meaning c.args.bytes.now) (sym c.from-residual.ensures) (no_head (laws g) c.args.bytes.now c.in-err-head.ensures)
+pub returns-in_err-head : goal.returns-in_err-head
+returns-in_err-head g c = subst (FirstFile g.M.Measure.meaning c.args.bytes.now) (sym c.from-residual.ensures) (no_head (laws g) c.args.bytes.now c.in_err-head.ensures)
 
-pub take-columns-requires : goal.take-columns-requires
-take-columns-requires g c =
+pub take_columns-requires : goal.take_columns-requires
+take_columns-requires g c =
     record {
-      fields = few_fields (laws g) c.args.bytes.now c.in-ok-head.head c.in-ok-head.body.now c.in-ok-head.ensures;
-      rows = few_rows (laws g) c.args.bytes.now c.in-ok-head.head c.in-ok-head.body.now c.in-ok-head.ensures;
+      fields = few_fields (laws g) c.args.bytes.now c.in_ok-head.head c.in_ok-head.body.now c.in_ok-head.ensures;
+      rows = few_rows (laws g) c.args.bytes.now c.in_ok-head.head c.in_ok-head.body.now c.in_ok-head.ensures;
     }
 
-pub returns-in-err-rest : goal.returns-in-err-rest
-returns-in-err-rest g c = subst (FirstFile g.M.Measure.meaning c.args.bytes.now) (sym c.from-residual-in-err-rest.ensures) (no_columns (laws g) c.args.bytes.now c.in-ok-head.head c.in-ok-head.body.now c.in-ok-head.ensures c.in-err-rest.ensures)
+pub returns-in_err-rest : goal.returns-in_err-rest
+returns-in_err-rest g c = subst (FirstFile g.M.Measure.meaning c.args.bytes.now) (sym c.from-residual-in_err-rest.ensures) (no_columns (laws g) c.args.bytes.now c.in_ok-head.head c.in_ok-head.body.now c.in_ok-head.ensures c.in_err-rest.ensures)
 
-pub overflow-sub-end : goal.overflow-sub-end
-overflow-sub-end g c =
-    let p = parts (laws g) c.args.bytes.now c.in-ok-head.head c.in-ok-head.body.now c.in-ok-head.ensures c.in-ok-rest.rest.now c.in-ok-rest.ensures in
+pub overflow_sub-end : goal.overflow_sub-end
+overflow_sub-end g c =
+    let p = parts (laws g) c.args.bytes.now c.in_ok-head.head c.in_ok-head.body.now c.in_ok-head.ensures c.in_ok-rest.rest.now c.in_ok-rest.ensures in
     no_longer _ _ _ p.body_is
 
 pub returns : goal.returns
 returns g c =
-    let p = parts (laws g) c.args.bytes.now c.in-ok-head.head c.in-ok-head.body.now c.in-ok-head.ensures c.in-ok-rest.rest.now c.in-ok-rest.ensures in
+    let p = parts (laws g) c.args.bytes.now c.in_ok-head.head c.in_ok-head.body.now c.in_ok-head.ensures c.in_ok-rest.rest.now c.in_ok-rest.ensures in
     (p.holds, p.good, p.written, record { fields = p.fields; columns = p.columns; rows = p.rows; body = front _ _ _ p.body_is })

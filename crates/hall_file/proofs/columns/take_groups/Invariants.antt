@@ -4,8 +4,8 @@ use Rattle.readers.specs.Readers.{after}
 use Rattle.hall_file.specs.Reading.{groups}
 use Rattle.hall_file.proofs.columns.take_groups.Given as goal
 
-abbrev pub invariant-loop-groups-left : goal.invariant-loop-groups-left
-invariant-loop-groups-left g l = (after (groups g.M.Measure.meaning l.shape l.count None l.all l.bytes) ≡ after (groups g.M.Measure.meaning l.shape l.groups-left l.last l.rows-left l.rest)) × (l.rows-left ≤ l.all)
+abbrev pub invariant-loop-groups_left : goal.invariant-loop-groups_left
+invariant-loop-groups_left g l = (after (groups g.M.Measure.meaning l.shape l.count None l.all l.bytes) ≡ after (groups g.M.Measure.meaning l.shape l.groups_left l.last l.rows_left l.rest)) × (l.rows_left ≤ l.all)
 
-abbrev pub decreases-loop-groups-left : goal.decreases-loop-groups-left
-decreases-loop-groups-left g l = l.groups-left
+abbrev pub decreases-loop-groups_left : goal.decreases-loop-groups_left
+decreases-loop-groups_left g l = l.groups_left

@@ -10,28 +10,28 @@ use Rattle.hall_file.proofs.columns.take_shape.Goals as goal
 laws : (g : Over) → Lawful g.M.Measure.meaning g.M.Measure.found
 laws g = record { keeps = g.met.M.Measure.keeps; formed = g.met.M.Measure.formed; finds = g.met.M.Measure.found_by_its_kind; found-by = g.met.M.Measure.has_the_kind_it_is_found_by }
 
-pub returns-in-default : goal.returns-in-default
-returns-in-default g c =
+pub returns-in_default : goal.returns-in_default
+returns-in_default g c =
     let l : length c.args.bytes.now < 3 = omega (arith, ltb-true) in
     shape_short (laws g) c.args.fields c.requires c.args.bytes.now l
 
-pub returns-in-err-measure : goal.returns-in-err-measure
-returns-in-err-measure g c =
-    ap seen c.from-residual.ensures ∙ shape_no_kind (laws g) c.args.fields c.requires c.args.bytes.now c.in-err-measure.ensures
+pub returns-in_err-measure : goal.returns-in_err-measure
+returns-in_err-measure g c =
+    ap seen c.from-residual.ensures ∙ shape_no_kind (laws g) c.args.fields c.requires c.args.bytes.now c.in_err-measure.ensures
 
-pub returns-in-err-measured : goal.returns-in-err-measured
-returns-in-err-measured g c =
-    ap seen c.from-residual-in-err-measured.ensures
-    ∙ shape_no_field (laws g) c.args.fields c.requires c.args.bytes.now c.in-ok-measure.measure c.in-ok-measure.ensures
-    (c.in-err-measured.ensures ∙ ap (λ n. measured_of n c.args.fields (get_or c.args.bytes.now 1 0)) c.fields.ensures)
+pub returns-in_err-measured : goal.returns-in_err-measured
+returns-in_err-measured g c =
+    ap seen c.from-residual-in_err-measured.ensures
+    ∙ shape_no_field (laws g) c.args.fields c.requires c.args.bytes.now c.in_ok-measure.measure c.in_ok-measure.ensures
+    (c.in_err-measured.ensures ∙ ap (λ n. measured_of n c.args.fields (get_or c.args.bytes.now 1 0)) c.fields.ensures)
 
-pub returns-then-not-is-mask : goal.returns-then-not-is-mask
-returns-then-not-is-mask g c =
-    shape_no_mask (laws g) c.args.fields c.requires c.args.bytes.now c.if-not-is-mask.ensures
+pub returns-then-not-is_mask : goal.returns-then-not-is_mask
+returns-then-not-is_mask g c =
+    shape_no_mask (laws g) c.args.fields c.requires c.args.bytes.now c.if-not-is_mask.ensures
 
 pub returns : goal.returns
 returns g c =
     let l : 3 ≤ length c.args.bytes.now = omega (arith, ltb-false) in
-    shape_yes (laws g) c.args.fields c.requires c.args.bytes.now c.in-ok-measure.measure c.in-ok-measured.measured l c.in-ok-measure.ensures
-    (c.in-ok-measured.ensures ∙ ap (λ n. measured_of n c.args.fields (get_or c.args.bytes.now 1 0)) c.fields.ensures)
-    c.if-not-is-mask.ensures
+    shape_yes (laws g) c.args.fields c.requires c.args.bytes.now c.in_ok-measure.measure c.in_ok-measured.measured l c.in_ok-measure.ensures
+    (c.in_ok-measured.ensures ∙ ap (λ n. measured_of n c.args.fields (get_or c.args.bytes.now 1 0)) c.fields.ensures)
+    c.if-not-is_mask.ensures

@@ -8,23 +8,23 @@ use Rattle.readers.proofs.Steps.{kept_yes, kept_no}
 use Rattle.hall_file.specs.Reading.{int}
 use Rattle.hall_file.proofs.groups.take_int.Goals as goal
 
-pub returns-in-err-word : goal.returns-in-err-word
+pub returns-in_err-word : goal.returns-in_err-word
 unfolding int
-returns-in-err-word c = ap seen c.from-residual.ensures ∙ ap (λ o. kept is_row_value (changed (to_z w32) o)) c.in-err-word.ensures
+returns-in_err-word c = ap seen c.from-residual.ensures ∙ ap (λ o. kept is_row_value (changed (to_z w32) o)) c.in_err-word.ensures
 
-pub returns-then-is-row-value : goal.returns-then-is-row-value
+pub returns-then-is_row_value : goal.returns-then-is_row_value
 unfolding int
-returns-then-is-row-value c =
-    let r = c.cast-signed-value.result in
+returns-then-is_row_value c =
+    let r = c.cast_signed-value.result in
     let f : SFits w32 r = search rules in
-    let p : to_z w32 (of_z w32 r) ≡ to_z w32 c.in-ok-word.word = to_z-of_z w32 r f ∙ c.cast-signed-value.ensures in
-    ap (λ z. Some (z, c.in-ok-word.rest.now)) p
-    ∙ kept_yes is_row_value (to_z w32 c.in-ok-word.word) c.in-ok-word.rest.now (changed (to_z w32) (number 4 c.args.bytes.now)) (ap (changed (to_z w32)) c.in-ok-word.ensures) (sym (c.if-is-row-value.ensures ∙ ap is_row_value p))
+    let p : to_z w32 (of_z w32 r) ≡ to_z w32 c.in_ok-word.word = to_z-of_z w32 r f ∙ c.cast_signed-value.ensures in
+    ap (λ z. Some (z, c.in_ok-word.rest.now)) p
+    ∙ kept_yes is_row_value (to_z w32 c.in_ok-word.word) c.in_ok-word.rest.now (changed (to_z w32) (number 4 c.args.bytes.now)) (ap (changed (to_z w32)) c.in_ok-word.ensures) (sym (c.if-is_row_value.ensures ∙ ap is_row_value p))
 
-pub returns-else-is-row-value : goal.returns-else-is-row-value
+pub returns-else-is_row_value : goal.returns-else-is_row_value
 unfolding int
-returns-else-is-row-value c =
-    let r = c.cast-signed-value.result in
+returns-else-is_row_value c =
+    let r = c.cast_signed-value.result in
     let f : SFits w32 r = search rules in
-    let p : to_z w32 (of_z w32 r) ≡ to_z w32 c.in-ok-word.word = to_z-of_z w32 r f ∙ c.cast-signed-value.ensures in
-    kept_no is_row_value (to_z w32 c.in-ok-word.word) c.in-ok-word.rest.now (changed (to_z w32) (number 4 c.args.bytes.now)) (ap (changed (to_z w32)) c.in-ok-word.ensures) (sym (c.if-is-row-value.ensures ∙ ap is_row_value p))
+    let p : to_z w32 (of_z w32 r) ≡ to_z w32 c.in_ok-word.word = to_z-of_z w32 r f ∙ c.cast_signed-value.ensures in
+    kept_no is_row_value (to_z w32 c.in_ok-word.word) c.in_ok-word.rest.now (changed (to_z w32) (number 4 c.args.bytes.now)) (ap (changed (to_z w32)) c.in_ok-word.ensures) (sym (c.if-is_row_value.ensures ∙ ap is_row_value p))

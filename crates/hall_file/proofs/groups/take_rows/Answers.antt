@@ -6,14 +6,14 @@ use Rattle.readers.proofs.Steps.{kept_yes, kept_no}
 use Rattle.hall_file.specs.Reading.{rows, fits}
 use Rattle.hall_file.proofs.groups.take_rows.Goals as goal
 
-pub returns-in-err-rows : goal.returns-in-err-rows
+pub returns-in_err-rows : goal.returns-in_err-rows
 unfolding rows
-returns-in-err-rows c = ap seen c.from-residual.ensures ∙ ap (kept (fits c.args.left)) c.in-err-rows.ensures
+returns-in_err-rows c = ap seen c.from-residual.ensures ∙ ap (kept (fits c.args.left)) c.in_err-rows.ensures
 
 pub returns-then-fits : goal.returns-then-fits
 unfolding rows
-returns-then-fits c = kept_yes (fits c.args.left) c.in-ok-rows.rows c.in-ok-rows.rest.now (number 4 c.args.bytes.now) c.in-ok-rows.ensures (sym c.if-fits.ensures)
+returns-then-fits c = kept_yes (fits c.args.left) c.in_ok-rows.rows c.in_ok-rows.rest.now (number 4 c.args.bytes.now) c.in_ok-rows.ensures (sym c.if-fits.ensures)
 
 pub returns-else-fits : goal.returns-else-fits
 unfolding rows
-returns-else-fits c = kept_no (fits c.args.left) c.in-ok-rows.rows c.in-ok-rows.rest.now (number 4 c.args.bytes.now) c.in-ok-rows.ensures (sym c.if-fits.ensures)
+returns-else-fits c = kept_no (fits c.args.left) c.in_ok-rows.rows c.in_ok-rows.rest.now (number 4 c.args.bytes.now) c.in_ok-rows.ensures (sym c.if-fits.ensures)

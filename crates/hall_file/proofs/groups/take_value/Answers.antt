@@ -4,27 +4,27 @@ use Rattle.readers.specs.Seen.{seen}
 use Rattle.hall_file.proofs.Steps.{value_short, value_at, value_none, value_some, value_not}
 use Rattle.hall_file.proofs.groups.take_value.Goals as goal
 
-pub returns-in-err-word : goal.returns-in-err-word
-returns-in-err-word g c = ap seen c.from-residual.ensures ∙ value_short (g.M.Measure.meaning c.args.measure.now) c.args.rows c.args.bytes.now c.in-err-word.ensures.cases
+pub returns-in_err-word : goal.returns-in_err-word
+returns-in_err-word g c = ap seen c.from-residual.ensures ∙ value_short (g.M.Measure.meaning c.args.measure.now) c.args.rows c.args.bytes.now c.in_err-word.ensures.cases
 
-pub returns-in-err-value : goal.returns-in-err-value
-returns-in-err-value g c =
+pub returns-in_err-value : goal.returns-in_err-value
+returns-in_err-value g c =
     let m = g.M.Measure.meaning c.args.measure.now in
-    let h = c.in-ok-word.ensures.cases in
-    ap seen c.from-residual-in-err-value.ensures
-    ∙ value_none m c.args.rows c.args.bytes.now c.in-ok-word.word.now c.in-ok-word.rest.now c.in-err-value.ensures
-    ∙ value_at m c.args.rows c.args.bytes.now c.in-ok-word.word.now c.in-ok-word.rest.now h.0 h.1 h.2 (λ i. (c.type-inv.bytes i).fits)
+    let h = c.in_ok-word.ensures.cases in
+    ap seen c.from-residual-in_err-value.ensures
+    ∙ value_none m c.args.rows c.args.bytes.now c.in_ok-word.word.now c.in_ok-word.rest.now c.in_err-value.ensures
+    ∙ value_at m c.args.rows c.args.bytes.now c.in_ok-word.word.now c.in_ok-word.rest.now h.0 h.1 h.2 (λ i. (c.type_inv.bytes i).fits)
 
 pub returns-then-possible : goal.returns-then-possible
 returns-then-possible g c =
     let m = g.M.Measure.meaning c.args.measure.now in
-    let h = c.in-ok-word.ensures.cases in
-    value_some m c.args.rows c.args.bytes.now c.in-ok-word.word.now c.in-ok-word.rest.now c.in-ok-value.value c.in-ok-value.ensures c.if_possible.ensures
-    ∙ value_at m c.args.rows c.args.bytes.now c.in-ok-word.word.now c.in-ok-word.rest.now h.0 h.1 h.2 (λ i. (c.type-inv.bytes i).fits)
+    let h = c.in_ok-word.ensures.cases in
+    value_some m c.args.rows c.args.bytes.now c.in_ok-word.word.now c.in_ok-word.rest.now c.in_ok-value.value c.in_ok-value.ensures c.if_possible.ensures
+    ∙ value_at m c.args.rows c.args.bytes.now c.in_ok-word.word.now c.in_ok-word.rest.now h.0 h.1 h.2 (λ i. (c.type_inv.bytes i).fits)
 
 pub returns-else-possible : goal.returns-else-possible
 returns-else-possible g c =
     let m = g.M.Measure.meaning c.args.measure.now in
-    let h = c.in-ok-word.ensures.cases in
-    value_not m c.args.rows c.args.bytes.now c.in-ok-word.word.now c.in-ok-word.rest.now c.in-ok-value.value c.in-ok-value.ensures c.if_possible.ensures
-    ∙ value_at m c.args.rows c.args.bytes.now c.in-ok-word.word.now c.in-ok-word.rest.now h.0 h.1 h.2 (λ i. (c.type-inv.bytes i).fits)
+    let h = c.in_ok-word.ensures.cases in
+    value_not m c.args.rows c.args.bytes.now c.in_ok-word.word.now c.in_ok-word.rest.now c.in_ok-value.value c.in_ok-value.ensures c.if_possible.ensures
+    ∙ value_at m c.args.rows c.args.bytes.now c.in_ok-word.word.now c.in_ok-word.rest.now h.0 h.1 h.2 (λ i. (c.type_inv.bytes i).fits)

@@ -3,40 +3,40 @@ use Rattle.std.proofs.Common.{◌≡◌, ℕ, ◌+◌, ◌*◌, ◌<◌, ◌≤�
 use Rattle.std.proofs.lemmas.Bool.{both_ways, and_parts, and_from, le-leb, leb-true, eq-eqb, eqb-true}
 use Rattle.hall_file.proofs.Heads.{HeadAt, head_no, head_yes, rows_at}
 use Rattle.hall_file.proofs.head.take_head.Goals as goal
-use Rattle.hall_file.proofs.head.take_head.Goals.{in-default-via-then-bytes-lt11, in-default-via-else-bytes-lt11+in-84·+in-76·+in-default·, in-default-via-else-bytes-lt11+in-84·+in-default·, in-default-via-else-bytes-lt11+in-default·}
+use Rattle.hall_file.proofs.head.take_head.Goals.{in_default-via-then-bytes-lt11, in_default-via-else-bytes-lt11+in-84·+in-76·+in_default·, in_default-via-else-bytes-lt11+in-84·+in_default·, in_default-via-else-bytes-lt11+in_default·}
 
-pub returns-in-default : goal.returns-in-default
-returns-in-default c =
+pub returns-in_default : goal.returns-in_default
+returns-in_default c =
     head_no c.args.bytes.now (λ h.
-    elim c.in-default.branch [
-      | in-default-via-then-bytes-lt11 w ↦ omega (arith, ltb-true)
-      | in-default-via-else-bytes-lt11+in-84·+in-76·+in-default· w ↦ omega (arith, ltb-true)
-      | in-default-via-else-bytes-lt11+in-84·+in-default· w ↦ omega (arith, ltb-true)
-      | in-default-via-else-bytes-lt11+in-default· w ↦ omega (arith, ltb-true)
+    elim c.in_default.branch [
+      | in_default-via-then-bytes-lt11 w ↦ omega (arith, ltb-true)
+      | in_default-via-else-bytes-lt11+in-84·+in-76·+in_default· w ↦ omega (arith, ltb-true)
+      | in_default-via-else-bytes-lt11+in-84·+in_default· w ↦ omega (arith, ltb-true)
+      | in_default-via-else-bytes-lt11+in_default· w ↦ omega (arith, ltb-true)
     ])
 
-pub returns-then-not-is-version : goal.returns-then-not-is-version
-returns-then-not-is-version c = head_no c.args.bytes.now (λ h. both_ways _ (sym c.if-not-is-version.ensures) (eq-eqb _ 1 h.version))
+pub returns-then-not-is_version : goal.returns-then-not-is_version
+returns-then-not-is_version c = head_no c.args.bytes.now (λ h. both_ways _ (sym c.if-not-is_version.ensures) (eq-eqb _ 1 h.version))
 
-pub returns-then-not-is-field-count : goal.returns-then-not-is-field-count
-returns-then-not-is-field-count c = head_no c.args.bytes.now (λ h. both_ways _ (sym c.if-not-is-field-count.ensures) (and_from _ _ (le-leb 1 _ h.fields-some) (le-leb _ 8 h.fields-few)))
+pub returns-then-not-is_field_count : goal.returns-then-not-is_field_count
+returns-then-not-is_field_count c = head_no c.args.bytes.now (λ h. both_ways _ (sym c.if-not-is_field_count.ensures) (and_from _ _ (le-leb 1 _ h.fields-some) (le-leb _ 8 h.fields-few)))
 
-pub returns-then-not-is-column-count : goal.returns-then-not-is-column-count
-returns-then-not-is-column-count c = head_no c.args.bytes.now (λ h. both_ways _ (sym c.if-not-is-column-count.ensures) (and_from _ _ (le-leb 1 _ h.columns-some) (le-leb _ 8 h.columns-few)))
+pub returns-then-not-is_column_count : goal.returns-then-not-is_column_count
+returns-then-not-is_column_count c = head_no c.args.bytes.now (λ h. both_ways _ (sym c.if-not-is_column_count.ensures) (and_from _ _ (le-leb 1 _ h.columns-some) (le-leb _ 8 h.columns-few)))
 
-pub returns-then-not-is-row-count : goal.returns-then-not-is-row-count
-returns-then-not-is-row-count c =
-    let e = c.from-le-bytes-rows.ensures in
-    head_no c.args.bytes.now (λ h. let r = h.rows_few in both_ways _ (sym c.if-not-is-row-count.ensures) (le-leb _ 1000000 (omega arith)))
+pub returns-then-not-is_row_count : goal.returns-then-not-is_row_count
+returns-then-not-is_row_count c =
+    let e = c.from_le_bytes-rows.ensures in
+    head_no c.args.bytes.now (λ h. let r = h.rows_few in both_ways _ (sym c.if-not-is_row_count.ensures) (le-leb _ 1000000 (omega arith)))
 
 pub returns : goal.returns
 returns c =
     let bs = c.args.bytes.now in
-    let e = c.from-le-bytes-rows.ensures in
-    let v = eqb-true (get_or bs 3 0 + get_or bs 4 0 * 256) 1 (sym c.if-not-is-version.ensures) in
-    let f = and_parts (leb 1 (get_or bs 5 0)) (leb (get_or bs 5 0) 8) (sym c.if-not-is-field-count.ensures) in
-    let k = and_parts (leb 1 (get_or bs 6 0)) (leb (get_or bs 6 0) 8) (sym c.if-not-is-column-count.ensures) in
-    let n = leb-true c.from-le-bytes-rows.result 1000000 (sym c.if-not-is-row-count.ensures) in
-    head_yes bs (λ i. (c.type-inv.bytes i).fits)
+    let e = c.from_le_bytes-rows.ensures in
+    let v = eqb-true (get_or bs 3 0 + get_or bs 4 0 * 256) 1 (sym c.if-not-is_version.ensures) in
+    let f = and_parts (leb 1 (get_or bs 5 0)) (leb (get_or bs 5 0) 8) (sym c.if-not-is_field_count.ensures) in
+    let k = and_parts (leb 1 (get_or bs 6 0)) (leb (get_or bs 6 0) 8) (sym c.if-not-is_column_count.ensures) in
+    let n = leb-true c.from_le_bytes-rows.result 1000000 (sym c.if-not-is_row_count.ensures) in
+    head_yes bs (λ i. (c.type_inv.bytes i).fits)
     (record { long = omega (arith, ltb-false); t = omega arith; l = omega arith; y = omega arith; version = v; fields-some = leb-true 1 _ f.0; fields-few = leb-true _ 8 f.1; columns-some = leb-true 1 _ k.0; columns-few = leb-true _ 8 k.1; rows_few = omega arith })
-    c.from-le-bytes-rows.result e
+    c.from_le_bytes-rows.result e

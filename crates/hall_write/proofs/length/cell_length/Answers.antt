@@ -17,7 +17,7 @@ returns g c =
     let x = c.args.cell.now in
     let s = c.args.shape.now in
     let e = c.group_length.ensures in
-    let w = c.key-width.ensures.value in
-    let n = group_size g.M.Measure.meaning g.met.M.Measure.formed s (group x) c.key-width.ensures.four in
+    let w = c.key_width.ensures.value in
+    let n = group_size g.M.Measure.meaning g.met.M.Measure.formed s (group x) c.key_width.ensures.four in
     let same : c.group_length.result ≡ length (group_bytes g.M.Measure.meaning s (group x)) = omega arith in
     same ∙ sym (ap length (cond-true (eqb x.id.column c.args.number) (group_bytes g.M.Measure.meaning s (group x)) [] (eq-eqb x.id.column c.args.number c.if-cell-number.false)))

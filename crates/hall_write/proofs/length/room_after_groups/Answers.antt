@@ -10,8 +10,8 @@ use Rattle.hall_write.proofs.length.room_after_groups.Goals as goal
 pub loop-i-init : goal.loop-i-init
 loop-i-init g c = refl
 
-pub returns-in-err-left : goal.returns-in-err-left
-returns-in-err-left g c =
+pub returns-in_err-left : goal.returns-in_err-left
+returns-in_err-left g c =
     let m = g.M.Measure.meaning in
     let s = c.args.shape.now in
     let k = c.args.number in
@@ -20,8 +20,8 @@ returns-in-err-left g c =
     let d = c.index-cells-i.result in
     let all = groups_bytes m s (column k cs) in
     let e = ap length (cells_at m k s cs i d c.loop-i-test.true) ∙ length-append (cell_bytes m k s (get_or cs i d)) (groups_bytes m s (column k (drop (i + 1) cs))) in
-    let n : c.cell-length.result ≡ length (cell_bytes m k s (get_or cs i d)) = c.cell-length.ensures ∙ ap (λ x. length (cell_bytes m k s x)) c.index-cells-i.is in
-    let short = c.in-err-left.ensures in
+    let n : c.cell_length.result ≡ length (cell_bytes m k s (get_or cs i d)) = c.cell_length.ensures ∙ ap (λ x. length (cell_bytes m k s x)) c.index-cells-i.is in
+    let short = c.in_err-left.ensures in
     let inv = c.loop-i.invariant in
     let more : c.args.room < length all = omega arith in
     subst (LeftOf c.args.room (length all)) (sym c.from-residual.ensures) more
@@ -35,8 +35,8 @@ loop-i-preserved g c =
     let i = c.loop-i.i in
     let d = c.index-cells-i.result in
     let e = ap length (cells_at m k s cs i d c.loop-i-test.true) ∙ length-append (cell_bytes m k s (get_or cs i d)) (groups_bytes m s (column k (drop (i + 1) cs))) in
-    let n : c.cell-length.result ≡ length (cell_bytes m k s (get_or cs i d)) = c.cell-length.ensures ∙ ap (λ x. length (cell_bytes m k s x)) c.index-cells-i.is in
-    let left = c.in-ok-left.ensures in
+    let n : c.cell_length.result ≡ length (cell_bytes m k s (get_or cs i d)) = c.cell_length.ensures ∙ ap (λ x. length (cell_bytes m k s x)) c.index-cells-i.is in
+    let left = c.in_ok-left.ensures in
     let inv = c.loop-i.invariant in
     omega arith
 

@@ -5,9 +5,9 @@ use Rattle.hall_write.proofs.put.head_bytes.Goals as goal
 
 pub returns : goal.returns
 returns c =
-    let v = c.to-le-bytes.ensures in
-    let n = c.to-le-bytes-2.ensures ∙ le_four c.args.rows in
-    let many = c.low-byte.ensures in
+    let v = c.to_le_bytes.ensures in
+    let n = c.to_le_bytes-2.ensures ∙ le_four c.args.rows in
+    let many = c.low_byte.ensures in
     let v0 = ap (λ l. get_or l 0 0) v in
     let v1 = ap (λ l. get_or l 1 0) v in
     let n0 = ap (λ l. get_or l 0 0) n in

@@ -4,4 +4,4 @@ use Rattle.hall_write.proofs.Overs.{over_put}
 use Rattle.hall_write.proofs.put.put.Goals as goal
 
 pub returns : goal.returns
-returns c = record { after = over_put c.args.at c.args.bytes.now c.args.out.now c.copy-from-slice.new.self c.copy-from-slice.ensures.after; end = refl }
+returns c = record { after = over_put c.args.at c.args.bytes.now c.args.out.now c.copy_from_slice.new.self c.copy_from_slice.ensures.after; end = refl }

@@ -16,8 +16,8 @@ returns-then-cell-number g c =
     let size = ap length none in
     record { after = sym (ap (λ l. over c.args.at l c.args.out.now) none ∙ over_none c.args.at c.args.out.now); end = omega arith }
 
-pub put-group-requires : goal.put-group-requires
-put-group-requires g c =
+pub put_group-requires : goal.put_group-requires
+put_group-requires g c =
     let x = c.args.cell.now in
     let s = c.args.shape.now in
     let here : cell_bytes g.M.Measure.meaning c.args.number s x ≡ group_bytes g.M.Measure.meaning s (group x) = cond-true (eqb x.id.column c.args.number) (group_bytes g.M.Measure.meaning s (group x)) [] (eq-eqb x.id.column c.args.number c.if-cell-number.false) in

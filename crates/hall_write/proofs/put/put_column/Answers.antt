@@ -8,12 +8,12 @@ use Rattle.hall_write.specs.Over.{over}
 use Rattle.hall_write.proofs.Overs.{Wrote, wrote_more, length_over}
 use Rattle.hall_write.proofs.put.put_column.Goals as goal
 
-pub put-groups-requires : goal.put-groups-requires
-put-groups-requires g c =
-    let head = ap length c.column-head.ensures in
+pub put_groups-requires : goal.put_groups-requires
+put_groups-requires g c =
+    let head = ap length c.column_head.ensures in
     let ends = c.put-end.ensures.end in
     let room = c.requires.room in
-    let kept = ap length c.put-end.ensures.after ∙ length_over c.args.at c.column-head.result c.args.out.now (omega arith) in
+    let kept = ap length c.put-end.ensures.after ∙ length_over c.args.at c.column_head.result c.args.out.now (omega arith) in
     omega arith
 
 pub returns : goal.returns
@@ -26,7 +26,7 @@ returns g c =
     let hb = shape_bytes m s ++ bytes_of 2 (length xs) in
     let gb = groups_bytes m s xs in
     let room = c.requires.room in
-    let head : c.column-head.result ≡ hb = c.column-head.ensures ∙ ap (λ n. shape_bytes m s ++ bytes_of 2 n) c.requires.counted in
+    let head : c.column_head.result ≡ hb = c.column_head.ensures ∙ ap (λ n. shape_bytes m s ++ bytes_of 2 n) c.requires.counted in
     let w1 : Wrote at out hb c.put-end.result c.put-end.new.out = record { is = c.put-end.ensures.after ∙ ap (λ l. over at l out) head; ends = c.put-end.ensures.end ∙ ap (λ l. at + length l) head } in
-    let w2 = wrote_more hb gb c.put-groups.result c.put-groups.new.out w1 c.put-groups.ensures.after c.put-groups.ensures.end (omega arith) in
+    let w2 = wrote_more hb gb c.put_groups.result c.put_groups.new.out w1 c.put_groups.ensures.after c.put_groups.ensures.end (omega arith) in
     record { after = w2.is; end = w2.ends }

@@ -12,8 +12,8 @@ use Rattle.hall_write.proofs.put.put_groups.Goals as goal
 pub loop-i-init : goal.loop-i-init
 loop-i-init g c = doing_all _ c.args.at c.args.out.now
 
-pub put-cell-end-requires : goal.put-cell-end-requires
-put-cell-end-requires g c =
+pub put_cell-end-requires : goal.put_cell-end-requires
+put_cell-end-requires g c =
     let m = g.M.Measure.meaning in
     let s = c.args.shape.now in
     let k = c.args.number in
@@ -31,8 +31,8 @@ loop-i-preserved g c =
     let cs = c.args.cells.now in
     let d = c.index-cells-i.result in
     let same : cell_bytes m k s d ≡ cell_bytes m k s (get_or cs c.loop-i.i d) = ap (cell_bytes m k s) c.index-cells-i.is in
-    doing_more c.loop-i.invariant (cell_bytes m k s (get_or cs c.loop-i.i d)) _ (cells_at m k s cs c.loop-i.i d c.loop-i-test.true) c.requires c.put-cell-end.result c.put-cell-end.new.out
-    (c.put-cell-end.ensures.after ∙ ap (λ l. over c.loop-i.end l c.loop-i.out) same) (c.put-cell-end.ensures.end ∙ ap (λ l. c.loop-i.end + length l) same)
+    doing_more c.loop-i.invariant (cell_bytes m k s (get_or cs c.loop-i.i d)) _ (cells_at m k s cs c.loop-i.i d c.loop-i-test.true) c.requires c.put_cell-end.result c.put_cell-end.new.out
+    (c.put_cell-end.ensures.after ∙ ap (λ l. over c.loop-i.end l c.loop-i.out) same) (c.put_cell-end.ensures.end ∙ ap (λ l. c.loop-i.end + length l) same)
 
 pub returns : goal.returns
 returns g c =

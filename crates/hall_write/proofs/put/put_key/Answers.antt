@@ -15,8 +15,8 @@ loop-i-init c =
     subst (λ n. Doing (key_bytes c.args.width c.args.key.now) (flat_map int_bytes (take n c.args.key.now)) c.args.at c.args.out.now c.args.at c.args.out.now) zero-off
     (doing_all (key_bytes c.args.width c.args.key.now) c.args.at c.args.out.now)
 
-pub put-int-end-requires : goal.put-int-end-requires
-put-int-end-requires c =
+pub put_int-end-requires : goal.put_int-end-requires
+put_int-end-requires c =
     let ks = c.args.key.now in
     let four : length ks ≡ 4 = search rules in
     let few = c.requires.few in
@@ -33,8 +33,8 @@ loop-i-preserved c =
     let room = c.requires.room in
     let size = key_length c.args.width ks four in
     let f : SFits w32 (get_or ks i (pos 0)) = search rules in
-    doing_more c.loop-i.invariant (int_bytes (get_or ks i (pos 0))) _ (key_at c.args.width i ks c.loop-i-test.true (omega arith)) (omega arith) c.put-int-end.result c.put-int-end.new.out
-    (c.put-int-end.ensures.after ∙ ap (λ z. over c.loop-i.end (int_bytes z) c.loop-i.out) (to_z-of_z w32 (get_or ks i (pos 0)) f)) c.put-int-end.ensures.end
+    doing_more c.loop-i.invariant (int_bytes (get_or ks i (pos 0))) _ (key_at c.args.width i ks c.loop-i-test.true (omega arith)) (omega arith) c.put_int-end.result c.put_int-end.new.out
+    (c.put_int-end.ensures.after ∙ ap (λ z. over c.loop-i.end (int_bytes z) c.loop-i.out) (to_z-of_z w32 (get_or ks i (pos 0)) f)) c.put_int-end.ensures.end
 
 pub returns : goal.returns
 returns c =

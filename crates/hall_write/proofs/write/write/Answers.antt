@@ -8,23 +8,23 @@ use Rattle.hall_write.proofs.Overs.{over_over, over_front, length_over}
 use Rattle.hall_write.proofs.Lengths.{file_size, file_is}
 use Rattle.hall_write.proofs.write.write.Goals as goal
 
-pub returns-in-default : goal.returns-in-default
-returns-in-default g c = (refl, c.in-default.ensures c.args.fields c.args.rows, refl)
+pub returns-in_default : goal.returns-in_default
+returns-in_default g c = (refl, c.in_default.ensures c.args.fields c.args.rows, refl)
 
 pub put-end-requires : goal.put-end-requires
 put-end-requires g c =
     let fits = (c.in-Some.ensures c.args.fields c.args.rows).1 in
     let z = file_size g.M.Measure.meaning c.args.fields c.args.rows c.args.shapes.now c.args.cells.now in
-    let head = ap length c.head-bytes.ensures in
+    let head = ap length c.head_bytes.ensures in
     omega arith
 
-pub put-columns-requires : goal.put-columns-requires
-put-columns-requires g c =
+pub put_columns-requires : goal.put_columns-requires
+put_columns-requires g c =
     let fits = (c.in-Some.ensures c.args.fields c.args.rows).1 in
     let z = file_size g.M.Measure.meaning c.args.fields c.args.rows c.args.shapes.now c.args.cells.now in
-    let head = ap length c.head-bytes.ensures in
+    let head = ap length c.head_bytes.ensures in
     let ends = c.put-end.ensures.end in
-    let kept = ap length c.put-end.ensures.after ∙ length_over 0 c.head-bytes.result c.args.buffer.now (omega arith) in
+    let kept = ap length c.put-end.ensures.after ∙ length_over 0 c.head_bytes.result c.args.buffer.now (omega arith) in
     omega arith
 
 pub returns : goal.returns
@@ -40,8 +40,8 @@ returns g c =
     let few = fits.1 in
     let z = file_size m c.args.fields c.args.rows ss cs in
     let is = file_is m c.args.fields c.args.rows ss cs in
-    let head : c.put-end.new.out ≡ over 0 hb old = c.put-end.ensures.after ∙ ap (λ l. over 0 l old) c.head-bytes.ensures in
-    let ends : c.put-end.result ≡ 0 + length hb = c.put-end.ensures.end ∙ ap (λ l. 0 + length l) c.head-bytes.ensures in
+    let head : c.put-end.new.out ≡ over 0 hb old = c.put-end.ensures.after ∙ ap (λ l. over 0 l old) c.head_bytes.ensures in
+    let ends : c.put-end.result ≡ 0 + length hb = c.put-end.ensures.end ∙ ap (λ l. 0 + length l) c.head_bytes.ensures in
     let whole : c.put_columns.new.out ≡ (hb ++ cb) ++ drop (length (hb ++ cb)) old =
     c.put_columns.ensures ∙ ap (over c.put-end.result cb) head ∙ ap (λ k. over k cb (over 0 hb old)) ends
     ∙ over_over 0 hb cb old (omega arith) ∙ over_front (hb ++ cb) old in

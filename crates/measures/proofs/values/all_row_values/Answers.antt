@@ -13,10 +13,10 @@ loop-value-preserved c =
     let f : SFits w32 (get_or c.args.values.now c.loop-value.value-index (pos 0)) = search rules in
     grind (arith, to_z-of_z)
 
-pub returns-then-not-is-row-value : goal.returns-then-not-is-row-value
-returns-then-not-is-row-value c =
+pub returns-then-not-is_row_value : goal.returns-then-not-is_row_value
+returns-then-not-is_row_value c =
     let e = all_row_values_drop c.args.values.now c.loop-value.value-index c.loop-value-test.true in
-    let t = c.if-not-is-row-value.ensures in
+    let t = c.if-not-is_row_value.ensures in
     let f : SFits w32 (get_or c.args.values.now c.loop-value.value-index (pos 0)) = search rules in
     grind (arith, to_z-of_z)
 

@@ -26,7 +26,7 @@ returns-in-None c = record {
       moves c.args.words.now (measured d n k) (λ at. refl) refl
       ∙ ap (λ m. onto c.args.words.now (measured_word d n k m)) (sym (c.in-Word.ensures ∙ ap (declared false) c.peek.ensures.seen))
       ∙ ap (λ o. onto c.args.words.now (measured_at d n k o)) (ap (λ rs. place rs c.in-Word.text.now 0) e ∙ sym c.in-None.ensures.value)
-      ∙ halted _ _ _ c.no-field.ensures;
+      ∙ halted _ _ _ c.no_field.ensures;
 }
 
 pub returns-in-Some : goal.returns-in-Some

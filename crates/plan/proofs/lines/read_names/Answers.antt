@@ -6,47 +6,47 @@ use Rattle.plan.specs.Lines.{ends_line}
 use Rattle.plan.proofs.Motions.{fails, advanced, names_end, names_first, names_more, later_shorter}
 use Rattle.plan.proofs.lines.read_names.Goals as goal
 
-pub returns-in-err-read-name : goal.returns-in-err-read-name
-returns-in-err-read-name c =
+pub returns-in_err-read_name : goal.returns-in_err-read_name
+returns-in_err-read_name c =
     let y = err_from_is_err_and c.from-residual.result c.from-residual.ensures.1 in
     record {
       shorter = IfOk-from_err c.from-residual.result _ c.from-residual.ensures.0;
-      value = λ more done l e. fails _ _ (λ _. done (texts c.read-name.new.table)) _ _ _ y.1 y.2
-          (names_first more done c.args.upper c.args.most l c.args.words.now (texts c.args.table.now) e ∙ c.in-err-read-name.ensures.value more);
+      value = λ more done l e. fails _ _ (λ _. done (texts c.read_name.new.table)) _ _ _ y.1 y.2
+          (names_first more done c.args.upper c.args.most l c.args.words.now (texts c.args.table.now) e ∙ c.in_err-read_name.ensures.value more);
     }
 
-pub returns-in-err-read-name-2 : goal.returns-in-err-read-name-2
-returns-in-err-read-name-2 c =
-    let y = err_from_is_err_and c.from-residual-in-err-read-name-2.result c.from-residual-in-err-read-name-2.ensures.1 in
+pub returns-in_err-read_name-2 : goal.returns-in_err-read_name-2
+returns-in_err-read_name-2 c =
+    let y = err_from_is_err_and c.from-residual-in_err-read_name-2.result c.from-residual-in_err-read_name-2.ensures.1 in
     record {
-      shorter = IfOk-from_err c.from-residual-in-err-read-name-2.result _ c.from-residual-in-err-read-name-2.ensures.0;
-      value = λ more done l e. fails _ _ (λ _. done (texts c.read-name-in-loop-words.new.table)) _ _ _ y.1 y.2
+      shorter = IfOk-from_err c.from-residual-in_err-read_name-2.result _ c.from-residual-in_err-read_name-2.ensures.0;
+      value = λ more done l e. fails _ _ (λ _. done (texts c.read_name-in-loop-words.new.table)) _ _ _ y.1 y.2
           (names_first more done c.args.upper c.args.most l c.args.words.now (texts c.args.table.now) e
-          ∙ c.in-ok-read-name.ensures.value more
+          ∙ c.in_ok-read_name.ensures.value more
           ∙ c.loop-words.invariant.2 more done l
           ∙ names_more more done c.args.upper c.args.most l c.loop-words.words (texts c.loop-words.table) (c.loop-words-test.ensures ∙ ap ends_line c.peek.ensures.seen)
-          ∙ c.in-err-read-name-2.ensures.value more);
+          ∙ c.in_err-read_name-2.ensures.value more);
     }
 
 pub loop-words-init : goal.loop-words-init
-loop-words-init c = (omega arith, c.in-ok-read-name.ensures.some, λ more done l. refl)
+loop-words-init c = (omega arith, c.in_ok-read_name.ensures.some, λ more done l. refl)
 
 pub loop-words-preserved : goal.loop-words-preserved
 loop-words-preserved c = (
-  omega (arith, c.loop-words.invariant.0, c.in-ok-read-name-2.ensures.shorter),
-  c.in-ok-read-name-2.ensures.some,
+  omega (arith, c.loop-words.invariant.0, c.in_ok-read_name-2.ensures.shorter),
+  c.in_ok-read_name-2.ensures.some,
   λ more done l.
       c.loop-words.invariant.2 more done l
       ∙ names_more more done c.args.upper c.args.most l c.loop-words.words (texts c.loop-words.table) (c.loop-words-test.ensures ∙ ap ends_line c.peek.ensures.seen)
-      ∙ c.in-ok-read-name-2.ensures.value more,
+      ∙ c.in_ok-read_name-2.ensures.value more,
 )
 
 pub returns : goal.returns
 returns c = record {
-  shorter = omega (arith, c.loop-words.invariant.0, c.in-ok-read-name.ensures.shorter, ap length c.advance.ensures.words, later_shorter (to_come c.loop-words.words));
+  shorter = omega (arith, c.loop-words.invariant.0, c.in_ok-read_name.ensures.shorter, ap length c.advance.ensures.words, later_shorter (to_come c.loop-words.words));
   value = λ more done l e.
       names_first more done c.args.upper c.args.most l c.args.words.now (texts c.args.table.now) e
-      ∙ c.in-ok-read-name.ensures.value more
+      ∙ c.in_ok-read_name.ensures.value more
       ∙ c.loop-words.invariant.2 more done l
       ∙ names_end more done c.args.upper c.args.most l c.loop-words.words (texts c.loop-words.table) (c.loop-words-test.ensures ∙ ap ends_line c.peek.ensures.seen) c.loop-words.invariant.1
       ∙ advanced c.loop-words.words c.advance.new.self _ c.advance.ensures.words c.advance.ensures.place;

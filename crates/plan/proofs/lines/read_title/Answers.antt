@@ -13,34 +13,34 @@ pub returns-in-NoName : goal.returns-in-NoName
 returns-in-NoName c = record { shorter = tt; room = tt; value = ap (λ k. onto c.args.words.now (column_name (draft_of c.args.plan.now) k)) (sym (c.in-NoName.ensures ∙ ap (declared false) c.peek.ensures.seen)) ∙ halted _ _ _ c.broken.ensures }
 
 pub returns-in-Held : goal.returns-in-Held
-returns-in-Held c = record { shorter = tt; room = tt; value = ap (λ k. onto c.args.words.now (column_name (draft_of c.args.plan.now) k)) (sym (c.in-Held.ensures ∙ ap (declared false) c.peek.ensures.seen)) ∙ halted _ _ _ c.used-again.ensures }
+returns-in-Held c = record { shorter = tt; room = tt; value = ap (λ k. onto c.args.words.now (column_name (draft_of c.args.plan.now) k)) (sym (c.in-Held.ensures ∙ ap (declared false) c.peek.ensures.seen)) ∙ halted _ _ _ c.used_again.ensures }
 
-pub returns-then-has-column : goal.returns-then-has-column
-returns-then-has-column c = record {
+pub returns-then-has_column : goal.returns-then-has_column
+returns-then-has_column c = record {
   shorter = tt;
   room = tt;
   value =
       ap (λ k. onto c.args.words.now (column_name (draft_of c.args.plan.now) k)) (sym (c.in-Word.ensures ∙ ap (declared false) c.peek.ensures.seen))
-      ∙ ap (onto c.args.words.now) (enter_taken (column_names (columns_of c.args.plan.now)) c.in-Word.text.now 8 _ (sym c.if-has-column.ensures))
-      ∙ halted _ _ _ c.used-again-then-has-column.ensures;
+      ∙ ap (onto c.args.words.now) (enter_taken (column_names (columns_of c.args.plan.now)) c.in-Word.text.now 8 _ (sym c.if-has_column.ensures))
+      ∙ halted _ _ _ c.used_again-then-has_column.ensures;
 }
 
-pub returns-then-not-has-room : goal.returns-then-not-has-room
-returns-then-not-has-room c = record {
+pub returns-then-not-has_room : goal.returns-then-not-has_room
+returns-then-not-has_room c = record {
   shorter = tt;
   room = tt;
   value =
       ap (λ k. onto c.args.words.now (column_name (draft_of c.args.plan.now) k)) (sym (c.in-Word.ensures ∙ ap (declared false) c.peek.ensures.seen))
-      ∙ ap (onto c.args.words.now) (enter_full (column_names (columns_of c.args.plan.now)) c.in-Word.text.now 8 _ (sym c.if-has-column.ensures) (sym (c.if-not-has-room.ensures ∙ ap (λ n. ltb n 8) (c.len.ensures.value ∙ sym (names_long (columns_of c.args.plan.now))))))
-      ∙ halted _ _ _ c.too-many.ensures;
+      ∙ ap (onto c.args.words.now) (enter_full (column_names (columns_of c.args.plan.now)) c.in-Word.text.now 8 _ (sym c.if-has_column.ensures) (sym (c.if-not-has_room.ensures ∙ ap (λ n. ltb n 8) (c.len.ensures.value ∙ sym (names_long (columns_of c.args.plan.now))))))
+      ∙ halted _ _ _ c.too_many.ensures;
 }
 
-pub returns-else-not-has-room : goal.returns-else-not-has-room
-returns-else-not-has-room c = record {
+pub returns-else-not-has_room : goal.returns-else-not-has_room
+returns-else-not-has_room c = record {
   shorter = omega (arith, name_falls false (to_come c.args.words.now) c.in-Word.text.now (c.in-Word.ensures ∙ ap (declared false) c.peek.ensures.seen), ap length c.advance.ensures.words);
-  room = ltb-true _ 8 (sym (c.if-not-has-room.ensures ∙ ap (λ n. ltb n 8) c.len.ensures.value));
+  room = ltb-true _ 8 (sym (c.if-not-has_room.ensures ∙ ap (λ n. ltb n 8) c.len.ensures.value));
   value =
       ap (λ k. onto c.args.words.now (column_name (draft_of c.args.plan.now) k)) (sym (c.in-Word.ensures ∙ ap (declared false) c.peek.ensures.seen))
-      ∙ ap (onto c.args.words.now) (enter_new (column_names (columns_of c.args.plan.now)) c.in-Word.text.now 8 _ (sym c.if-has-column.ensures) (sym (c.if-not-has-room.ensures ∙ ap (λ n. ltb n 8) (c.len.ensures.value ∙ sym (names_long (columns_of c.args.plan.now))))))
+      ∙ ap (onto c.args.words.now) (enter_new (column_names (columns_of c.args.plan.now)) c.in-Word.text.now 8 _ (sym c.if-has_column.ensures) (sym (c.if-not-has_room.ensures ∙ ap (λ n. ltb n 8) (c.len.ensures.value ∙ sym (names_long (columns_of c.args.plan.now))))))
       ∙ advanced c.args.words.now c.advance.new.self _ c.advance.ensures.words c.advance.ensures.place;
 }

@@ -27,11 +27,11 @@ returns-in-End c = record {
 
 pub returns-in-Where : goal.returns-in-Where
 returns-in-Where c = record {
-  on = made_weaker c.read-condition.result _ _ (λ r h. omega (arith, h, ap length c.advance-in-Where.ensures.words, later_shorter (to_come c.args.words.now))) (where_shorter c.advance-in-Where.new.self c.read-condition.new.words c.args.names.now c.read-condition.result c.read-condition.ensures.value);
+  on = made_weaker c.read_condition.result _ _ (λ r h. omega (arith, h, ap length c.advance-in-Where.ensures.words, later_shorter (to_come c.args.words.now))) (where_shorter c.advance-in-Where.new.self c.read_condition.new.words c.args.names.now c.read_condition.result c.read_condition.ensures.value);
   value = λ d h e b.
-      leads_from _ _ _ (λ r. line (with_column d h (asked (trees r.condition)) r.fields)) c.read-condition.result
+      leads_from _ _ _ (λ r. line (with_column d h (asked (trees r.condition)) r.fields)) c.read_condition.result
       (moves c.args.words.now (headed d h) (λ at. refl) refl
       ∙ ap (λ k. onto c.args.words.now (after_head d h k)) (sym (c.in-Where.ensures ∙ ap following c.peek.ensures.seen))
       ∙ advanced c.args.words.now c.advance-in-Where.new.self _ c.advance-in-Where.ensures.words c.advance-in-Where.ensures.place)
-      (where_leads c.advance-in-Where.new.self c.read-condition.new.words c.args.names.now c.read-condition.result d h e b c.read-condition.ensures.value);
+      (where_leads c.advance-in-Where.new.self c.read_condition.new.words c.args.names.now c.read_condition.result d h e b c.read_condition.ensures.value);
 }

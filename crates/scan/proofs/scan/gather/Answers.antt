@@ -6,12 +6,12 @@ use Rattle.scan.specs.Scans.{rows_of, is_row, with_row}
 use Rattle.scan.proofs.Gathering.{rest_from, length_rows_of, with_row_rows, gathers}
 use Rattle.scan.proofs.scan.gather.Goals as goal
 
-pub returns-then-not-is-row : goal.returns-then-not-is-row
-returns-then-not-is-row g c =
+pub returns-then-not-is_row : goal.returns-then-not-is_row
+returns-then-not-is_row g c =
     let rows = c.args.rows.now in
     let i = c.loop-row.row-index in
     let p = is_row c.args.width in
-    c.loop-row.invariant.0 ∙ ap (list_all p) (rest_from rows i _ c.loop-row-test.true) ∙ ap (λ b. b && list_all p (drop (i + 1) (rows_of rows))) (sym c.if-not-is-row.ensures)
+    c.loop-row.invariant.0 ∙ ap (list_all p) (rest_from rows i _ c.loop-row-test.true) ∙ ap (λ b. b && list_all p (drop (i + 1) (rows_of rows))) (sym c.if-not-is_row.ensures)
 
 pub loop-row-preserved : goal.loop-row-preserved
 loop-row-preserved g c =
@@ -20,10 +20,10 @@ loop-row-preserved g c =
     let p = is_row c.args.width in
     let m = g.M.Measure.meaning c.args.column.now.measure in
     let f = with_row m c.args.column.now c.args.base.now in
-    let few : c.with-row-all.result.rows ≤ c.loop-row.all.rows + 1 =
-    subst (λ q. q.rows ≤ c.loop-row.all.rows + 1) (sym c.with-row-all.ensures) (with_row_rows m c.args.column.now c.args.base.now c.loop-row.all _) in (
-      c.loop-row.invariant.0 ∙ ap (list_all p) (rest_from rows i _ c.loop-row-test.true) ∙ ap (λ b. b && list_all p (drop (i + 1) (rows_of rows))) (sym c.if-not-is-row.ensures),
-      c.loop-row.invariant.1 ∙ ap (fold f c.loop-row.all) (rest_from rows i _ c.loop-row-test.true) ∙ ap (λ a. fold f a (drop (i + 1) (rows_of rows))) (sym c.with-row-all.ensures),
+    let few : c.with_row-all.result.rows ≤ c.loop-row.all.rows + 1 =
+    subst (λ q. q.rows ≤ c.loop-row.all.rows + 1) (sym c.with_row-all.ensures) (with_row_rows m c.args.column.now c.args.base.now c.loop-row.all _) in (
+      c.loop-row.invariant.0 ∙ ap (list_all p) (rest_from rows i _ c.loop-row-test.true) ∙ ap (λ b. b && list_all p (drop (i + 1) (rows_of rows))) (sym c.if-not-is_row.ensures),
+      c.loop-row.invariant.1 ∙ ap (fold f c.loop-row.all) (rest_from rows i _ c.loop-row-test.true) ∙ ap (λ a. fold f a (drop (i + 1) (rows_of rows))) (sym c.with_row-all.ensures),
       omega (arith, few, c.loop-row.invariant.2),
     )
 

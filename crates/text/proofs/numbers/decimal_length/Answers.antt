@@ -3,8 +3,8 @@ use Rattle.std.proofs.lemmas.Fmt.{decimal_digit, decimal_nonempty, length-decima
 use Rattle.text.proofs.Writing.{length_step}
 use Rattle.text.proofs.numbers.decimal_length.Goals as goal
 
-pub overflow-add-count : goal.overflow-add-count
-overflow-add-count c =
+pub overflow_add-count : goal.overflow_add-count
+overflow_add-count c =
     let short : length (decimal c.args.n) ≤ 20 = length-decimal-le 20 c.args.n (omega arith) (omega arith) (omega arith) in
     let some = decimal_nonempty c.loop-rest.rest c.loop-rest.invariant.1 in
     omega (arith, c.loop-rest.invariant.0)

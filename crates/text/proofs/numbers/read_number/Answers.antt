@@ -5,5 +5,5 @@ use Rattle.text.proofs.numbers.read_number.Goals as goal
 pub returns : goal.returns
 returns c =
     let w = c.args.word.now in
-    let e = c.of-whole.ensures ∙ number_by_front w _ _ c.front-number.ensures.length c.front-number.ensures.number in
+    let e = c.of_whole.ensures ∙ number_by_front w _ _ c.front_number.ensures.length c.front_number.ensures.number in
     record { value = e; exactly = exactly w _ e }

@@ -6,10 +6,10 @@ use Rattle.text.proofs.numbers.read_unsigned.Goals as goal
 pub returns : goal.returns
 returns c =
     let w = c.args.word.now in
-    let d = c.front-digits-digits.ensures in
+    let d = c.front_digits-digits.ensures in
     let p = c.plain_number.ensures in
     record { value = p.value ∙ ap unsigned (whole_digits w (omega (arith, d.count, c.if-digits-word.false))); small = p.small }
 
 pub returns-then-digits-word : goal.returns-then-digits-word
 returns-then-digits-word c =
-    record { value = sym (longer_unsigned c.args.word.now (omega (arith, c.front-digits-digits.ensures.count, c.if-digits-word.true))); small = tt }
+    record { value = sym (longer_unsigned c.args.word.now (omega (arith, c.front_digits-digits.ensures.count, c.if-digits-word.true))); small = tt }

@@ -9,10 +9,10 @@ pub loop-rest-preserved : goal.loop-rest-preserved
 loop-rest-preserved c =
     let l = c.loop-rest in
     let old = c.args.buffer.now in
-    subst (λ b. Tail old (set l.buffer (l.end - 1) b) c.args.n c.args.at (l.rest / 10) (l.end - 1)) (sym c.digit-byte.ensures)
+    subst (λ b. Tail old (set l.buffer (l.end - 1) b) c.args.n c.args.at (l.rest / 10) (l.end - 1)) (sym c.digit_byte.ensures)
     (tail_more old l.buffer c.args.n c.args.at l.rest l.end l.invariant c.loop-rest-test.true)
 
 pub returns : goal.returns
 returns c =
     let l = c.loop-rest in
-    ap (set l.buffer c.args.at) c.digit-byte-2.ensures ∙ tail_last c.args.buffer.now l.buffer c.args.n c.args.at l.rest l.end l.invariant c.loop-rest-test.false
+    ap (set l.buffer c.args.at) c.digit_byte-2.ensures ∙ tail_last c.args.buffer.now l.buffer c.args.n c.args.at l.rest l.end l.invariant c.loop-rest-test.false

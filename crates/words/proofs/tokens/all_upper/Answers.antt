@@ -3,11 +3,11 @@ use Rattle.std.specs.Char.{is_ascii_uppercase}
 use Rattle.words.proofs.Spelling.{all_bad, all_more, all_end}
 use Rattle.words.proofs.tokens.all_upper.Goals as goal
 
-pub returns-then-not-is-ascii-uppercase : goal.returns-then-not-is-ascii-uppercase
-returns-then-not-is-ascii-uppercase c = all_bad is_ascii_uppercase c.args.text.now c.loop-b.b-index c.loop-b-test.true (sym c.if-not-is-ascii-uppercase.ensures.value) c.loop-b.invariant
+pub returns-then-not-is_ascii_uppercase : goal.returns-then-not-is_ascii_uppercase
+returns-then-not-is_ascii_uppercase c = all_bad is_ascii_uppercase c.args.text.now c.loop-b.b-index c.loop-b-test.true (sym c.if-not-is_ascii_uppercase.ensures.value) c.loop-b.invariant
 
 pub loop-b-preserved : goal.loop-b-preserved
-loop-b-preserved c = all_more is_ascii_uppercase c.args.text.now c.loop-b.b-index c.loop-b-test.true (sym c.if-not-is-ascii-uppercase.ensures.value) c.loop-b.invariant
+loop-b-preserved c = all_more is_ascii_uppercase c.args.text.now c.loop-b.b-index c.loop-b-test.true (sym c.if-not-is_ascii_uppercase.ensures.value) c.loop-b.invariant
 
 pub returns : goal.returns
 returns c = all_end is_ascii_uppercase c.args.text.now c.loop-b.b-index c.loop-b-test.false c.loop-b.invariant

@@ -6,11 +6,11 @@ use Rattle.cells.specs.declared.id.GroupId.{GroupId}
 use Rattle.cells.proofs.id.GroupId.is.Goals as goal
 use Rattle.std.proofs.lemmas.Bool.Decides.{Decides-eqb}
 
-pub returns-then-of-one-column : goal.returns-then-of-one-column
-returns-then-of-one-column c =
+pub returns-then-of_one_column : goal.returns-then-of_one_column
+returns-then-of_one_column c =
     let keys = slice_eq-Decides Decides-eqb _ _ _ c.eq.ensures in
-    let column = eqb-true c.args.self.now.column c.args.other.now.column (sym c.of-one-column.ensures ∙ c.if-of-one-column.true) in
+    let column = eqb-true c.args.self.now.column c.args.other.now.column (sym c.of_one_column.ensures ∙ c.if-of_one_column.true) in
     (λ t. λ i. record { column = column i; key = keys.0 t i }, λ e. keys.1 (ap (λ (p : GroupId). p.key) e))
 
-pub returns-else-of-one-column : goal.returns-else-of-one-column
-returns-else-of-one-column c = (λ t. absurd (true≢false (sym t ∙ c.if-of-one-column.false)), λ e. c.of-one-column.ensures ∙ eq-eqb _ _ (ap (λ (p : GroupId). p.column) e))
+pub returns-else-of_one_column : goal.returns-else-of_one_column
+returns-else-of_one_column c = (λ t. absurd (true≢false (sym t ∙ c.if-of_one_column.false)), λ e. c.of_one_column.ensures ∙ eq-eqb _ _ (ap (λ (p : GroupId). p.column) e))

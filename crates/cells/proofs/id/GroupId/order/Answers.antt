@@ -12,7 +12,7 @@ returns-in-Less c = ap (λ r. ordering_then r (key_order c.args.self.now.key c.a
 pub returns-in-Equal : goal.returns-in-Equal
 unfolding order
 returns-in-Equal c =
-    c.by-key.ensures
+    c.by_key.ensures
     ∙ ap (λ r. ordering_then r (key_order c.args.self.now.key c.args.other.now.key)) (column_rank _ _ Equal c.in-Equal.ensures)
 
 pub returns-in-Greater : goal.returns-in-Greater

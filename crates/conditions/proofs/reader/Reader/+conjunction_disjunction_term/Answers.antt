@@ -7,36 +7,36 @@ use Rattle.conditions.proofs.Moves.{fails, two, stays, joint_falls, denies, ente
 use Rattle.conditions.proofs.Growth.{leaf_grown, denial_grown, bracket_grown, both_grown, either_grown, same_grown}
 use Rattle.conditions.proofs.reader.Reader.+conjunction_disjunction_term.Goals as goal
 
-pub conjunction-returns-in-err-term : goal.conjunction-returns-in-err-term
-conjunction-returns-in-err-term t c =
+pub conjunction-returns-in_err-term : goal.conjunction-returns-in_err-term
+conjunction-returns-in_err-term t c =
     let y = err_from_is_err_and c.from-residual.result c.from-residual.ensures.1 in
     record {
       on = c.term.ensures.on;
       grown = IfOk-from_err c.from-residual.result _ c.from-residual.ensures.0;
       ends = IfOk-from_err c.from-residual.result _ c.from-residual.ensures.0;
-      value = λ o ls d. fails _ _ _ (λ _. after o (tree c.term.new.out) ls) _ _ _ y.1 y.2 (c.in-err-term.ensures.value (opened o ls) d);
+      value = λ o ls d. fails _ _ _ (λ _. after o (tree c.term.new.out) ls) _ _ _ y.1 y.2 (c.in_err-term.ensures.value (opened o ls) d);
     }
 
-pub conjunction-returns-in-err-term-2 : goal.conjunction-returns-in-err-term-2
-conjunction-returns-in-err-term-2 t c =
-    let y = err_from_is_err_and c.from-residual-in-err-term-2.result c.from-residual-in-err-term-2.ensures.1 in
+pub conjunction-returns-in_err-term-2 : goal.conjunction-returns-in_err-term-2
+conjunction-returns-in_err-term-2 t c =
+    let y = err_from_is_err_and c.from-residual-in_err-term-2.result c.from-residual-in_err-term-2.ensures.1 in
     record {
       on = two _ _ _ (two _ _ _ (two _ _ _ c.term.ensures.on c.loop-self.invariant.0) c.advance.ensures.on) c.term-in-And.ensures.on;
-      grown = IfOk-from_err c.from-residual-in-err-term-2.result _ c.from-residual-in-err-term-2.ensures.0;
-      ends = IfOk-from_err c.from-residual-in-err-term-2.result _ c.from-residual-in-err-term-2.ensures.0;
+      grown = IfOk-from_err c.from-residual-in_err-term-2.result _ c.from-residual-in_err-term-2.ensures.0;
+      ends = IfOk-from_err c.from-residual-in_err-term-2.result _ c.from-residual-in_err-term-2.ensures.0;
       value = λ o ls d. fails _ _ _ (λ _. after o (tree c.term-in-And.new.out) ls) _ _ _ y.1 y.2
-          (c.in-ok-term.ensures.value (opened o ls) d ∙ c.loop-self.invariant.1 o ls d ∙ joins_and (looks c.args.names.now) c.loop-self.self o (tree c.loop-self.out) ls c.advance.new.self c.in-And.ensures c.advance.ensures.goes
-          ∙ c.in-err-term-2.ensures.value (record { here = record { before = along (tree c.loop-self.out) ∷ []; ors = o }; outer = ls }) d);
+          (c.in_ok-term.ensures.value (opened o ls) d ∙ c.loop-self.invariant.1 o ls d ∙ joins_and (looks c.args.names.now) c.loop-self.self o (tree c.loop-self.out) ls c.advance.new.self c.in-And.ensures c.advance.ensures.goes
+          ∙ c.in_err-term-2.ensures.value (record { here = record { before = along (tree c.loop-self.out) ∷ []; ors = o }; outer = ls }) d);
     }
 
 pub conjunction-loop-self-preserved : goal.conjunction-loop-self-preserved
 conjunction-loop-self-preserved t c =
-    let g = both_grown c.term-in-And.new.out c.push.new.self c.push.ensures.used c.loop-self.out _ c.loop-self.self c.term-in-And.new.self c.args.depth c.loop-self.invariant.2 c.in-ok-term-2.ensures.grown c.push.ensures.trees in (
+    let g = both_grown c.term-in-And.new.out c.push.new.self c.push.ensures.used c.loop-self.out _ c.loop-self.self c.term-in-And.new.self c.args.depth c.loop-self.invariant.2 c.in_ok-term-2.ensures.grown c.push.ensures.trees in (
       two _ _ _ c.loop-self.invariant.0 (two _ _ _ c.advance.ensures.on c.term-in-And.ensures.on),
       λ o ls d.
           c.loop-self.invariant.1 o ls d
           ∙ joins_and (looks c.args.names.now) c.loop-self.self o (tree c.loop-self.out) ls c.advance.new.self c.in-And.ensures c.advance.ensures.goes
-          ∙ c.in-ok-term-2.ensures.value (record { here = record { before = along (tree c.loop-self.out) ∷ []; ors = o }; outer = ls }) d
+          ∙ c.in_ok-term-2.ensures.value (record { here = record { before = along (tree c.loop-self.out) ∷ []; ors = o }; outer = ls }) d
           ∙ ap (λ u. rest (looks c.args.names.now) c.term-in-And.new.self (after o u ls)) (sym g.1),
       g.0,
     )
@@ -44,43 +44,43 @@ conjunction-loop-self-preserved t c =
 pub conjunction-returns : goal.conjunction-returns
 conjunction-returns t c = record {
   on = two _ _ _ c.term.ensures.on c.loop-self.invariant.0;
-  value = λ o ls d. c.in-ok-term.ensures.value (opened o ls) d ∙ c.loop-self.invariant.1 o ls d;
-  grown = same_grown _ _ c.loop-self.out c.loop-self.self c.args.depth (ap below c.in-ok-term.ensures.grown.one) c.loop-self.invariant.2;
-  ends = λ h. c.in-default.not-And (c.joining.ensures ∙ h);
+  value = λ o ls d. c.in_ok-term.ensures.value (opened o ls) d ∙ c.loop-self.invariant.1 o ls d;
+  grown = same_grown _ _ c.loop-self.out c.loop-self.self c.args.depth (ap below c.in_ok-term.ensures.grown.one) c.loop-self.invariant.2;
+  ends = λ h. c.in_default.not-And (c.joining.ensures ∙ h);
 }
 
-pub disjunction-returns-in-err-conjunction-2 : goal.disjunction-returns-in-err-conjunction-2
-disjunction-returns-in-err-conjunction-2 t c =
-    let y = err_from_is_err_and c.from-residual-in-err-conjunction-2.result c.from-residual-in-err-conjunction-2.ensures.1 in
+pub disjunction-returns-in_err-conjunction-2 : goal.disjunction-returns-in_err-conjunction-2
+disjunction-returns-in_err-conjunction-2 t c =
+    let y = err_from_is_err_and c.from-residual-in_err-conjunction-2.result c.from-residual-in_err-conjunction-2.ensures.1 in
     record {
       on = two _ _ _ (two _ _ _ (two _ _ _ c.conjunction.ensures.on c.loop-self.invariant.0) c.advance.ensures.on) c.conjunction-in-Or.ensures.on;
-      grown = IfOk-from_err c.from-residual-in-err-conjunction-2.result _ c.from-residual-in-err-conjunction-2.ensures.0;
-      ends = IfOk-from_err c.from-residual-in-err-conjunction-2.result _ c.from-residual-in-err-conjunction-2.ensures.0;
+      grown = IfOk-from_err c.from-residual-in_err-conjunction-2.result _ c.from-residual-in_err-conjunction-2.ensures.0;
+      ends = IfOk-from_err c.from-residual-in_err-conjunction-2.result _ c.from-residual-in_err-conjunction-2.ensures.0;
       value = λ ls d. fails _ _ _ (λ _. after None (tree c.conjunction-in-Or.new.out) ls) _ _ _ y.1 y.2
-          (c.in-ok-conjunction.ensures.value None ls d ∙ c.loop-self.invariant.1 ls d ∙ joins_or (looks c.args.names.now) c.loop-self.self None (tree c.loop-self.out) ls c.advance.new.self c.in-Or.ensures c.advance.ensures.goes
-          ∙ c.in-err-conjunction-2.ensures.value (Some (tree c.loop-self.out)) ls d);
+          (c.in_ok-conjunction.ensures.value None ls d ∙ c.loop-self.invariant.1 ls d ∙ joins_or (looks c.args.names.now) c.loop-self.self None (tree c.loop-self.out) ls c.advance.new.self c.in-Or.ensures c.advance.ensures.goes
+          ∙ c.in_err-conjunction-2.ensures.value (Some (tree c.loop-self.out)) ls d);
     }
 
 pub disjunction-loop-self-preserved : goal.disjunction-loop-self-preserved
 disjunction-loop-self-preserved t c =
-    let g = either_grown c.conjunction-in-Or.new.out c.push.new.self c.push.ensures.used c.loop-self.out _ c.loop-self.self c.conjunction-in-Or.new.self c.args.depth c.loop-self.invariant.3 c.in-ok-conjunction-2.ensures.grown c.push.ensures.trees in (
+    let g = either_grown c.conjunction-in-Or.new.out c.push.new.self c.push.ensures.used c.loop-self.out _ c.loop-self.self c.conjunction-in-Or.new.self c.args.depth c.loop-self.invariant.3 c.in_ok-conjunction-2.ensures.grown c.push.ensures.trees in (
       two _ _ _ c.loop-self.invariant.0 (two _ _ _ c.advance.ensures.on c.conjunction-in-Or.ensures.on),
       λ ls d.
           c.loop-self.invariant.1 ls d
           ∙ joins_or (looks c.args.names.now) c.loop-self.self None (tree c.loop-self.out) ls c.advance.new.self c.in-Or.ensures c.advance.ensures.goes
-          ∙ c.in-ok-conjunction-2.ensures.value (Some (tree c.loop-self.out)) ls d
-          ∙ shuts (looks c.args.names.now) c.conjunction-in-Or.new.self (Some (tree c.loop-self.out)) (tree c.conjunction-in-Or.new.out) ls c.in-ok-conjunction-2.ensures.ends
+          ∙ c.in_ok-conjunction-2.ensures.value (Some (tree c.loop-self.out)) ls d
+          ∙ shuts (looks c.args.names.now) c.conjunction-in-Or.new.self (Some (tree c.loop-self.out)) (tree c.conjunction-in-Or.new.out) ls c.in_ok-conjunction-2.ensures.ends
           ∙ ap (λ u. rest (looks c.args.names.now) c.conjunction-in-Or.new.self (after None u ls)) (sym g.1),
-      c.in-ok-conjunction-2.ensures.ends,
+      c.in_ok-conjunction-2.ensures.ends,
       g.0,
     )
 
 pub disjunction-returns : goal.disjunction-returns
 disjunction-returns t c = record {
   on = two _ _ _ c.conjunction.ensures.on c.loop-self.invariant.0;
-  value = λ ls d. c.in-ok-conjunction.ensures.value None ls d ∙ c.loop-self.invariant.1 ls d;
-  grown = same_grown _ _ c.loop-self.out c.loop-self.self c.args.depth (ap below c.in-ok-conjunction.ensures.grown.one) c.loop-self.invariant.3;
-  ends = (c.loop-self.invariant.2, λ h. c.in-default.not-Or (c.joining.ensures ∙ h));
+  value = λ ls d. c.in_ok-conjunction.ensures.value None ls d ∙ c.loop-self.invariant.1 ls d;
+  grown = same_grown _ _ c.loop-self.out c.loop-self.self c.args.depth (ap below c.in_ok-conjunction.ensures.grown.one) c.loop-self.invariant.3;
+  ends = (c.loop-self.invariant.2, λ h. c.in_default.not-Or (c.joining.ensures ∙ h));
 }
 
 pub term-returns-then-depth-eq0 : goal.term-returns-then-depth-eq0
@@ -90,8 +90,8 @@ term-returns-then-depth-eq0 t c = record {
   value = λ p d. denied_too_deep (looks c.args.names.now) c.args.self.now p _ c.in-Denial.ensures (omega (arith, d, c.if-depth-eq0.true)) c.limit.ensures;
 }
 
-pub term-returns-in-err-term : goal.term-returns-in-err-term
-term-returns-in-err-term t c =
+pub term-returns-in_err-term : goal.term-returns-in_err-term
+term-returns-in_err-term t c =
     let y = err_from_is_err_and c.from-residual.result c.from-residual.ensures.1 in
     record {
       on = two _ _ _ c.advance.ensures.on c.term.ensures.on;
@@ -101,12 +101,12 @@ term-returns-in-err-term t c =
           let more : deep (denied p) + (c.args.depth - 1) ≡ 8 = omega (arith, d, c.if-depth-eq0.false) in
           fails _ _ _ (λ _. settled p (tree c.term.new.out)) _ _ _ y.1 y.2
           (denies (looks c.args.names.now) c.args.self.now p c.advance.new.self c.in-Denial.ensures low c.advance.ensures.goes
-          ∙ c.in-err-term.ensures.value (denied p) more);
+          ∙ c.in_err-term.ensures.value (denied p) more);
     }
 
-pub term-returns-in-ok-term : goal.term-returns-in-ok-term
-term-returns-in-ok-term t c =
-    let g = denial_grown c.term.new.out c.push.new.self c.push.ensures.used _ c.term.new.self c.args.depth (omega (arith, c.if-depth-eq0.false)) c.in-ok-term.ensures.grown c.push.ensures.trees in
+pub term-returns-in_ok-term : goal.term-returns-in_ok-term
+term-returns-in_ok-term t c =
+    let g = denial_grown c.term.new.out c.push.new.self c.push.ensures.used _ c.term.new.self c.args.depth (omega (arith, c.if-depth-eq0.false)) c.in_ok-term.ensures.grown c.push.ensures.trees in
     record {
       on = two _ _ _ c.advance.ensures.on c.term.ensures.on;
       grown = g.0;
@@ -114,7 +114,7 @@ term-returns-in-ok-term t c =
           let low : deep p < 8 = omega (arith, d, c.if-depth-eq0.false) in
           let more : deep (denied p) + (c.args.depth - 1) ≡ 8 = omega (arith, d, c.if-depth-eq0.false) in
           denies (looks c.args.names.now) c.args.self.now p c.advance.new.self c.in-Denial.ensures low c.advance.ensures.goes
-          ∙ c.in-ok-term.ensures.value (denied p) more
+          ∙ c.in_ok-term.ensures.value (denied p) more
           ∙ ap (λ u. rest (looks c.args.names.now) c.term.new.self (settled p u)) (sym g.1);
     }
 
@@ -125,23 +125,23 @@ term-returns-then-depth-eq0-2 t c = record {
   value = λ p d. bracket_too_deep (looks c.args.names.now) c.args.self.now p _ c.in-Bracket.ensures (omega (arith, d, c.if-depth-eq0-2.true)) c.limit-then-depth-eq0-2.ensures;
 }
 
-pub term-returns-in-err-disjunction : goal.term-returns-in-err-disjunction
-term-returns-in-err-disjunction t c =
-    let y = err_from_is_err_and c.from-residual-in-err-disjunction.result c.from-residual-in-err-disjunction.ensures.1 in
+pub term-returns-in_err-disjunction : goal.term-returns-in_err-disjunction
+term-returns-in_err-disjunction t c =
+    let y = err_from_is_err_and c.from-residual-in_err-disjunction.result c.from-residual-in_err-disjunction.ensures.1 in
     record {
       on = two _ _ _ c.advance-in-Bracket.ensures.on c.disjunction.ensures.on;
-      grown = IfOk-from_err c.from-residual-in-err-disjunction.result _ c.from-residual-in-err-disjunction.ensures.0;
+      grown = IfOk-from_err c.from-residual-in_err-disjunction.result _ c.from-residual-in_err-disjunction.ensures.0;
       value = λ p d.
           let low : deep p < 8 = omega (arith, d, c.if-depth-eq0-2.false) in
           let more : deep (inside p) + (c.args.depth - 1) ≡ 8 = omega (arith, d, c.if-depth-eq0-2.false) in
           fails _ _ _ (λ _. settled p (tree c.disjunction.new.out)) _ _ _ y.1 y.2
           (enters (looks c.args.names.now) c.args.self.now p c.advance-in-Bracket.new.self c.in-Bracket.ensures low c.advance-in-Bracket.ensures.goes
-          ∙ c.in-err-disjunction.ensures.value (p.here ∷ p.outer) more);
+          ∙ c.in_err-disjunction.ensures.value (p.here ∷ p.outer) more);
     }
 
 pub term-returns-in-Close : goal.term-returns-in-Close
 term-returns-in-Close t c =
-    let g = bracket_grown c.disjunction.new.out c.push-in-Close.new.self c.push-in-Close.ensures.used _ c.disjunction.new.self c.advance-in-Close.new.self c.args.depth (omega (arith, c.if-depth-eq0-2.false)) c.in-ok-disjunction.ensures.grown c.advance-in-Close.ensures.on c.push-in-Close.ensures.trees in
+    let g = bracket_grown c.disjunction.new.out c.push-in-Close.new.self c.push-in-Close.ensures.used _ c.disjunction.new.self c.advance-in-Close.new.self c.args.depth (omega (arith, c.if-depth-eq0-2.false)) c.in_ok-disjunction.ensures.grown c.advance-in-Close.ensures.on c.push-in-Close.ensures.trees in
     record {
       on = two _ _ _ (two _ _ _ c.advance-in-Bracket.ensures.on c.disjunction.ensures.on) c.advance-in-Close.ensures.on;
       grown = g.0;
@@ -149,41 +149,41 @@ term-returns-in-Close t c =
           let low : deep p < 8 = omega (arith, d, c.if-depth-eq0-2.false) in
           let more : deep (inside p) + (c.args.depth - 1) ≡ 8 = omega (arith, d, c.if-depth-eq0-2.false) in
           enters (looks c.args.names.now) c.args.self.now p c.advance-in-Bracket.new.self c.in-Bracket.ensures low c.advance-in-Bracket.ensures.goes
-          ∙ c.in-ok-disjunction.ensures.value (p.here ∷ p.outer) more
+          ∙ c.in_ok-disjunction.ensures.value (p.here ∷ p.outer) more
           ∙ closes (looks c.args.names.now) c.disjunction.new.self None (tree c.disjunction.new.out) p.outer c.advance-in-Close.new.self p.here c.in-Close.ensures c.advance-in-Close.ensures.goes
           ∙ ap (λ u. rest (looks c.args.names.now) c.advance-in-Close.new.self (settled p u)) (sym g.1);
     }
 
-pub term-returns-in-default : goal.term-returns-in-default
-term-returns-in-default t c = record {
+pub term-returns-in_default : goal.term-returns-in_default
+term-returns-in_default t c = record {
   on = two _ _ _ c.advance-in-Bracket.ensures.on c.disjunction.ensures.on;
   grown = tt;
   value = λ p d.
       let low : deep p < 8 = omega (arith, d, c.if-depth-eq0-2.false) in
       let more : deep (inside p) + (c.args.depth - 1) ≡ 8 = omega (arith, d, c.if-depth-eq0-2.false) in
       enters (looks c.args.names.now) c.args.self.now p c.advance-in-Bracket.new.self c.in-Bracket.ensures low c.advance-in-Bracket.ensures.goes
-      ∙ c.in-ok-disjunction.ensures.value (p.here ∷ p.outer) more
-      ∙ not_closed (looks c.args.names.now) c.disjunction.new.self None (tree c.disjunction.new.out) p.outer p.here _ c.in-ok-disjunction.ensures.ends.0 c.in-ok-disjunction.ensures.ends.1 (λ h. c.in-default.not-Close (c.joining.ensures ∙ h)) c.form.ensures;
+      ∙ c.in_ok-disjunction.ensures.value (p.here ∷ p.outer) more
+      ∙ not_closed (looks c.args.names.now) c.disjunction.new.self None (tree c.disjunction.new.out) p.outer p.here _ c.in_ok-disjunction.ensures.ends.0 c.in_ok-disjunction.ensures.ends.1 (λ h. c.in_default.not-Close (c.joining.ensures ∙ h)) c.form.ensures;
 }
 
-pub term-returns-in-err-found : goal.term-returns-in-err-found
-term-returns-in-err-found t c =
-    let y = err_from_is_err_and c.from-residual-in-err-found.result c.from-residual-in-err-found.ensures.1 in
+pub term-returns-in_err-found : goal.term-returns-in_err-found
+term-returns-in_err-found t c =
+    let y = err_from_is_err_and c.from-residual-in_err-found.result c.from-residual-in_err-found.ensures.1 in
     record {
       on = c.comparison.ensures.on;
-      grown = IfOk-from_err c.from-residual-in-err-found.result _ c.from-residual-in-err-found.ensures.0;
+      grown = IfOk-from_err c.from-residual-in_err-found.result _ c.from-residual-in_err-found.ensures.0;
       value = λ p d. fails _ _ _ (λ _. settled p (tree c.args.out.now)) _ _ _ y.1 y.2
-          (plainly (looks c.args.names.now) c.args.self.now p c.in-Plain.ensures ∙ c.in-err-found.ensures.value p);
+          (plainly (looks c.args.names.now) c.args.self.now p c.in-Plain.ensures ∙ c.in_err-found.ensures.value p);
     }
 
-pub term-returns-in-ok-found : goal.term-returns-in-ok-found
-term-returns-in-ok-found t c =
-    let g = leaf_grown c.args.out.now c.push-in-Plain.new.self c.push-in-Plain.ensures.used c.args.self.now c.comparison.new.self c.args.depth c.in-ok-found.found c.requires c.in-ok-found.ensures.counts.0 c.in-ok-found.ensures.counts.1 c.push-in-Plain.ensures.trees in
+pub term-returns-in_ok-found : goal.term-returns-in_ok-found
+term-returns-in_ok-found t c =
+    let g = leaf_grown c.args.out.now c.push-in-Plain.new.self c.push-in-Plain.ensures.used c.args.self.now c.comparison.new.self c.args.depth c.in_ok-found.found c.requires c.in_ok-found.ensures.counts.0 c.in_ok-found.ensures.counts.1 c.push-in-Plain.ensures.trees in
     record {
       on = c.comparison.ensures.on;
       grown = g.0;
       value = λ p d.
           plainly (looks c.args.names.now) c.args.self.now p c.in-Plain.ensures
-          ∙ c.in-ok-found.ensures.value p
+          ∙ c.in_ok-found.ensures.value p
           ∙ ap (λ u. rest (looks c.args.names.now) c.comparison.new.self (settled p u)) (sym g.1);
     }

@@ -21,58 +21,58 @@ returns-in-Unknown c = record {
   value = λ p. first_unknown (looks c.args.names.now) c.args.self.now p _ (c.in-Unknown.ensures.value ∙ ap (found _) c.peek.ensures.seen) _ refl c.unknown.ensures;
 }
 
-pub returns-then-not-may-compare : goal.returns-then-not-may-compare
-returns-then-not-may-compare c = record {
+pub returns-then-not-may_compare : goal.returns-then-not-may_compare
+returns-then-not-may_compare c = record {
   on = stays c.args.self.now c.args.self.now refl refl;
   counts = tt;
-  value = λ p. many_refused (looks c.args.names.now) c.args.self.now p c.found-found.result (c.found-found.ensures.value ∙ ap (found _) c.peek.ensures.seen) _ (not_bad _ c.in-default.not-NoOperand c.in-default-found.not-Unknown) c.if-not-may-compare.ensures c.limit.ensures;
+  value = λ p. many_refused (looks c.args.names.now) c.args.self.now p c.found-found.result (c.found-found.ensures.value ∙ ap (found _) c.peek.ensures.seen) _ (not_bad _ c.in_default.not-NoOperand c.in_default-found.not-Unknown) c.if-not-may_compare.ensures c.limit.ensures;
 }
 
-pub returns-in-err-left : goal.returns-in-err-left
-returns-in-err-left c =
+pub returns-in_err-left : goal.returns-in_err-left
+returns-in_err-left c =
     let y = err_from_is_err_and c.from-residual.result c.from-residual.ensures.1 in
     record {
-      on = (counting c.args.self.now _ _ c.operand.ensures.on refl refl (ltb-true _ 16 (sym c.if-not-may-compare.ensures))).0;
+      on = (counting c.args.self.now _ _ c.operand.ensures.on refl refl (ltb-true _ 16 (sym c.if-not-may_compare.ensures))).0;
       counts = IfOk-from_err c.from-residual.result _ c.from-residual.ensures.0;
       value = λ p. fails _ _ _ (λ k. settled p (compare k)) _ _ _ y.1 y.2
-          (counted_on (looks c.args.names.now) c.args.self.now p c.found-found.result (c.found-found.ensures.value ∙ ap (found _) c.peek.ensures.seen) _ (not_bad _ c.in-default.not-NoOperand c.in-default-found.not-Unknown) c.if-not-may-compare.ensures refl refl
-          ∙ c.in-err-left.ensures.value p left);
+          (counted_on (looks c.args.names.now) c.args.self.now p c.found-found.result (c.found-found.ensures.value ∙ ap (found _) c.peek.ensures.seen) _ (not_bad _ c.in_default.not-NoOperand c.in_default-found.not-Unknown) c.if-not-may_compare.ensures refl refl
+          ∙ c.in_err-left.ensures.value p left);
     }
 
-pub returns-in-default-peek : goal.returns-in-default-peek
-returns-in-default-peek c = record {
-  on = (counting c.args.self.now _ _ c.operand.ensures.on refl refl (ltb-true _ 16 (sym c.if-not-may-compare.ensures))).0;
+pub returns-in_default-peek : goal.returns-in_default-peek
+returns-in_default-peek c = record {
+  on = (counting c.args.self.now _ _ c.operand.ensures.on refl refl (ltb-true _ 16 (sym c.if-not-may_compare.ensures))).0;
   counts = tt;
   value = λ p.
-      counted_on (looks c.args.names.now) c.args.self.now p c.found-found.result (c.found-found.ensures.value ∙ ap (found _) c.peek.ensures.seen) _ (not_bad _ c.in-default.not-NoOperand c.in-default-found.not-Unknown) c.if-not-may-compare.ensures refl refl
-      ∙ c.in-ok-left.ensures.value p left
-      ∙ refuses (looks c.args.names.now) c.operand.new.self _ _ _ _ c.peek-2.ensures.seen (sign_none (looks c.args.names.now) _ p _ _ c.in-default-peek.not-Sign) c.form-in-default-peek.ensures;
+      counted_on (looks c.args.names.now) c.args.self.now p c.found-found.result (c.found-found.ensures.value ∙ ap (found _) c.peek.ensures.seen) _ (not_bad _ c.in_default.not-NoOperand c.in_default-found.not-Unknown) c.if-not-may_compare.ensures refl refl
+      ∙ c.in_ok-left.ensures.value p left
+      ∙ refuses (looks c.args.names.now) c.operand.new.self _ _ _ _ c.peek-2.ensures.seen (sign_none (looks c.args.names.now) _ p _ _ c.in_default-peek.not-Sign) c.form-in_default-peek.ensures;
 }
 
-pub returns-in-err-right : goal.returns-in-err-right
-returns-in-err-right c =
-    let y = err_from_is_err_and c.from-residual-in-err-right.result c.from-residual-in-err-right.ensures.1 in
+pub returns-in_err-right : goal.returns-in_err-right
+returns-in_err-right c =
+    let y = err_from_is_err_and c.from-residual-in_err-right.result c.from-residual-in_err-right.ensures.1 in
     record {
-      on = (counting c.args.self.now _ _ (two _ _ _ c.operand.ensures.on (two _ _ _ c.advance.ensures.on c.operand-2.ensures.on)) refl refl (ltb-true _ 16 (sym c.if-not-may-compare.ensures))).0;
-      counts = IfOk-from_err c.from-residual-in-err-right.result _ c.from-residual-in-err-right.ensures.0;
+      on = (counting c.args.self.now _ _ (two _ _ _ c.operand.ensures.on (two _ _ _ c.advance.ensures.on c.operand-2.ensures.on)) refl refl (ltb-true _ 16 (sym c.if-not-may_compare.ensures))).0;
+      counts = IfOk-from_err c.from-residual-in_err-right.result _ c.from-residual-in_err-right.ensures.0;
       value = λ p. fails _ _ _ (λ k. settled p (compare k)) _ _ _ y.1 y.2
-          (counted_on (looks c.args.names.now) c.args.self.now p c.found-found.result (c.found-found.ensures.value ∙ ap (found _) c.peek.ensures.seen) _ (not_bad _ c.in-default.not-NoOperand c.in-default-found.not-Unknown) c.if-not-may-compare.ensures refl refl
-          ∙ c.in-ok-left.ensures.value p left
-          ∙ goes_on (looks c.args.names.now) c.operand.new.self c.advance.new.self (compared p c.in-ok-left.left) (operand p c.in-ok-left.left c.in-Sign.sign) _ c.in-Sign.ensures.seen refl c.advance.ensures.goes
+          (counted_on (looks c.args.names.now) c.args.self.now p c.found-found.result (c.found-found.ensures.value ∙ ap (found _) c.peek.ensures.seen) _ (not_bad _ c.in_default.not-NoOperand c.in_default-found.not-Unknown) c.if-not-may_compare.ensures refl refl
+          ∙ c.in_ok-left.ensures.value p left
+          ∙ goes_on (looks c.args.names.now) c.operand.new.self c.advance.new.self (compared p c.in_ok-left.left) (operand p c.in_ok-left.left c.in-Sign.sign) _ c.in-Sign.ensures.seen refl c.advance.ensures.goes
           ∙ moves _ c.advance.new.self _
-          ∙ c.in-err-right.ensures.value p (right c.in-ok-left.left c.in-Sign.sign));
+          ∙ c.in_err-right.ensures.value p (right c.in_ok-left.left c.in-Sign.sign));
     }
 
 pub returns : goal.returns
 returns c =
-    let both = counting c.args.self.now _ _ (two _ _ _ c.operand.ensures.on (two _ _ _ c.advance.ensures.on c.operand-2.ensures.on)) refl refl (ltb-true _ 16 (sym c.if-not-may-compare.ensures)) in
+    let both = counting c.args.self.now _ _ (two _ _ _ c.operand.ensures.on (two _ _ _ c.advance.ensures.on c.operand-2.ensures.on)) refl refl (ltb-true _ 16 (sym c.if-not-may_compare.ensures)) in
     record {
       on = both.0;
       counts = both.1;
       value = λ p.
-          counted_on (looks c.args.names.now) c.args.self.now p c.found-found.result (c.found-found.ensures.value ∙ ap (found _) c.peek.ensures.seen) _ (not_bad _ c.in-default.not-NoOperand c.in-default-found.not-Unknown) c.if-not-may-compare.ensures refl refl
-          ∙ c.in-ok-left.ensures.value p left
-          ∙ goes_on (looks c.args.names.now) c.operand.new.self c.advance.new.self (compared p c.in-ok-left.left) (operand p c.in-ok-left.left c.in-Sign.sign) _ c.in-Sign.ensures.seen refl c.advance.ensures.goes
+          counted_on (looks c.args.names.now) c.args.self.now p c.found-found.result (c.found-found.ensures.value ∙ ap (found _) c.peek.ensures.seen) _ (not_bad _ c.in_default.not-NoOperand c.in_default-found.not-Unknown) c.if-not-may_compare.ensures refl refl
+          ∙ c.in_ok-left.ensures.value p left
+          ∙ goes_on (looks c.args.names.now) c.operand.new.self c.advance.new.self (compared p c.in_ok-left.left) (operand p c.in_ok-left.left c.in-Sign.sign) _ c.in-Sign.ensures.seen refl c.advance.ensures.goes
           ∙ moves _ c.advance.new.self _
-          ∙ c.in-ok-right.ensures.value p (right c.in-ok-left.left c.in-Sign.sign);
+          ∙ c.in_ok-right.ensures.value p (right c.in_ok-left.left c.in-Sign.sign);
     }

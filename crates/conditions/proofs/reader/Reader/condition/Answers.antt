@@ -6,24 +6,24 @@ use Rattle.conditions.specs.Promises.{looks, outcome, seen_by}
 use Rattle.conditions.proofs.Moves.{ended, not_ended}
 use Rattle.conditions.proofs.reader.Reader.condition.Goals as goal
 
-pub returns-in-err-disjunction : goal.returns-in-err-disjunction
-returns-in-err-disjunction c =
+pub returns-in_err-disjunction : goal.returns-in_err-disjunction
+returns-in_err-disjunction c =
     let y = err_from_is_err_and c.from-residual.result c.from-residual.ensures.1 in
     record {
-      value = ap (λ x. outcome x c.disjunction.new.self) (y.1 ∙ ap Err y.2) ∙ sym (c.in-err-disjunction.ensures.value [] (omega (arith, c.levels.ensures)));
+      value = ap (λ x. outcome x c.disjunction.new.self) (y.1 ∙ ap Err y.2) ∙ sym (c.in_err-disjunction.ensures.value [] (omega (arith, c.levels.ensures)));
       one = IfOk-from_err c.from-residual.result _ c.from-residual.ensures.0;
     }
 
 pub returns-in-End : goal.returns-in-End
 returns-in-End c = record {
   value = (λ i. accepted (tree c.disjunction.new.out) (seen_by c.disjunction.new.self) (c.advance.ensures.place i) (c.advance.ensures.words i))
-      ∙ sym (c.in-ok-disjunction.ensures.value [] (omega (arith, c.levels.ensures)) ∙ ended (looks c.args.names.now) c.disjunction.new.self (tree c.disjunction.new.out) c.in-End.ensures);
-  one = c.in-ok-disjunction.ensures.grown.one ∙ ap (λ l. tree c.disjunction.new.out ∷ l) c.always-out.ensures.none;
+      ∙ sym (c.in_ok-disjunction.ensures.value [] (omega (arith, c.levels.ensures)) ∙ ended (looks c.args.names.now) c.disjunction.new.self (tree c.disjunction.new.out) c.in-End.ensures);
+  one = c.in_ok-disjunction.ensures.grown.one ∙ ap (λ l. tree c.disjunction.new.out ∷ l) c.always-out.ensures.none;
 }
 
-pub returns-in-default : goal.returns-in-default
-returns-in-default c = record {
-  value = sym (c.in-ok-disjunction.ensures.value [] (omega (arith, c.levels.ensures))
-      ∙ not_ended (looks c.args.names.now) c.disjunction.new.self (tree c.disjunction.new.out) _ c.in-ok-disjunction.ensures.ends.0 c.in-ok-disjunction.ensures.ends.1 (λ h. c.in-default.not-End (c.joining.ensures ∙ h)) c.form.ensures);
+pub returns-in_default : goal.returns-in_default
+returns-in_default c = record {
+  value = sym (c.in_ok-disjunction.ensures.value [] (omega (arith, c.levels.ensures))
+      ∙ not_ended (looks c.args.names.now) c.disjunction.new.self (tree c.disjunction.new.out) _ c.in_ok-disjunction.ensures.ends.0 c.in_ok-disjunction.ensures.ends.1 (λ h. c.in_default.not-End (c.joining.ensures ∙ h)) c.form.ensures);
   one = tt;
 }

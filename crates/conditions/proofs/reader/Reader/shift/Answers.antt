@@ -5,18 +5,18 @@ use Rattle.conditions.specs.Promises.{seen_by}
 use Rattle.conditions.proofs.Moves.{same_step, unshifted, not_shift, goes_on, refuses, by_none, two, stays}
 use Rattle.conditions.proofs.reader.Reader.shift.Goals as goal
 
-pub returns-in-default : goal.returns-in-default
-returns-in-default c = record {
+pub returns-in_default : goal.returns-in_default
+returns-in_default c = record {
   on = stays c.args.self.now c.args.self.now refl refl;
-  value = λ e p side mk. same_step e c.args.self.now _ _ _ c.peek.ensures.seen (unshifted e _ p side mk _ (not_shift _ c.in-default.not-Shift));
+  value = λ e p side mk. same_step e c.args.self.now _ _ _ c.peek.ensures.seen (unshifted e _ p side mk _ (not_shift _ c.in_default.not-Shift));
 }
 
-pub returns-in-default-peek : goal.returns-in-default-peek
-returns-in-default-peek c = record {
+pub returns-in_default-peek : goal.returns-in_default-peek
+returns-in_default-peek c = record {
   on = c.advance.ensures.on;
   value = λ e p side mk.
       goes_on e c.args.self.now c.advance.new.self (field p side mk) (by p side mk c.in-Shift.plus) _ c.in-Shift.ensures.seen refl c.advance.ensures.goes
-      ∙ refuses e c.advance.new.self _ _ _ _ c.peek-2.ensures.seen (by_none e _ p side mk _ _ c.in-default-peek.not-Number) c.form.ensures;
+      ∙ refuses e c.advance.new.self _ _ _ _ c.peek-2.ensures.seen (by_none e _ p side mk _ _ c.in_default-peek.not-Number) c.form.ensures;
 }
 
 pub returns-in-None : goal.returns-in-None

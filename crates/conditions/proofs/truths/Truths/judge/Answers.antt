@@ -8,7 +8,7 @@ unfolding stacked
 returns-in-Compare c =
     let h : c.args.self.now.high < length c.args.self.now.held = search rules in
     record {
-      stacked = up c.args.self.now.held c.args.self.now.high c.is-true.result h ∙ ap (λ b. b ∷ heap c.args.self.now.held c.args.self.now.high) c.is-true.ensures ∙ ap (λ s. judge c.args.row.now c.args.base.now s (stacked c.args.self.now)) (sym c.in-Compare.is);
+      stacked = up c.args.self.now.held c.args.self.now.high c.is_true.result h ∙ ap (λ b. b ∷ heap c.args.self.now.held c.args.self.now.high) c.is_true.ensures ∙ ap (λ s. judge c.args.row.now c.args.base.now s (stacked c.args.self.now)) (sym c.in-Compare.is);
       high = omega arith;
     }
 
@@ -34,7 +34,7 @@ unfolding stacked
 returns-then-n-gt1 c =
     let h : c.args.self.now.high ≤ length c.args.self.now.held = search rules in
     record {
-      stacked = met c.args.row.now c.args.base.now c.args.self.now.held c.args.self.now.high _ c.both-of.ensures c.if-n-gt1.true h ∙ ap (λ s. judge c.args.row.now c.args.base.now s (stacked c.args.self.now)) (sym c.in-And.is);
+      stacked = met c.args.row.now c.args.base.now c.args.self.now.held c.args.self.now.high _ c.both_of.ensures c.if-n-gt1.true h ∙ ap (λ s. judge c.args.row.now c.args.base.now s (stacked c.args.self.now)) (sym c.in-And.is);
       high = omega arith;
     }
 
@@ -51,7 +51,7 @@ unfolding stacked
 returns-then-n-gt1-2 c =
     let h : c.args.self.now.high ≤ length c.args.self.now.held = search rules in
     record {
-      stacked = joined c.args.row.now c.args.base.now c.args.self.now.held c.args.self.now.high _ c.one-of.ensures c.if-n-gt1-2.true h ∙ ap (λ s. judge c.args.row.now c.args.base.now s (stacked c.args.self.now)) (sym c.in-Or.is);
+      stacked = joined c.args.row.now c.args.base.now c.args.self.now.held c.args.self.now.high _ c.one_of.ensures c.if-n-gt1-2.true h ∙ ap (λ s. judge c.args.row.now c.args.base.now s (stacked c.args.self.now)) (sym c.in-Or.is);
       high = omega arith;
     }
 

@@ -19,4 +19,4 @@ pub returns : goal.returns
 returns c =
     let s = c.args.self.now in
     let e = ap (map (cut s.width)) (begins s.rest.now (omega arith)) in
-    record { gives = sym (ap (λ l. first l Clean) e); left = ap (map (cut s.width)) (c.after-first-self.ensures ∙ take_rest s.rest.now 1) ∙ sym (ap rest e); same = (refl, refl) }
+    record { gives = sym (ap (λ l. first l Clean) e); left = ap (map (cut s.width)) (c.after_first-self.ensures ∙ take_rest s.rest.now 1) ∙ sym (ap rest e); same = (refl, refl) }

@@ -56,7 +56,7 @@ returns-in-Ended g c =
     let none = over (f.coming l.feed) (f.ending l.feed) c.in-Ended.end e.gives in
     let k = sym inv.3 ∙ ap (section_of l.field l.value) none in
     record {
-      gives = ap (told (f.wide c.args.self.now.feed)) c.ended-so.ensures ∙ ap ended (end_told (f.coming l.feed) (f.ending l.feed) c.in-Ended.end e.gives ∙ inv.2) ∙ sym (ap (λ x. first x (f.ending c.args.self.now.feed)) k);
+      gives = ap (told (f.wide c.args.self.now.feed)) c.ended_so.ensures ∙ ap ended (end_told (f.coming l.feed) (f.ending l.feed) c.in-Ended.end e.gives ∙ inv.2) ∙ sym (ap (λ x. first x (f.ending c.args.self.now.feed)) k);
       left = ap (section_of l.field l.value) (e.left ∙ ap rest none) ∙ sym (ap rest k);
       same = (e.same.0 ∙ inv.1, e.same.1 ∙ inv.2);
     }

@@ -9,10 +9,10 @@ use Rattle.feeds.specs.declared.step.End.TheVariants.{Fault}
 use Rattle.feeds.proofs.Ends.{held_same}
 use Rattle.feeds.proofs.sheet.SheetFeedFeed.next.Goals as goal
 
-pub returns-then-is-over : goal.returns-then-is-over
-returns-then-is-over c =
+pub returns-then-is_over : goal.returns-then-is_over
+returns-then-is_over c =
     let s = c.args.self.now in
-    let e = ap (sheet s.width) (nil_from_length s.rest.now (eqb-true (length s.rest.now) 0 (sym c.if-is-over.ensures))) in
+    let e = ap (sheet s.width) (nil_from_length s.rest.now (eqb-true (length s.rest.now) 0 (sym c.if-is_over.ensures))) in
     record {
       gives = sym (ap (λ l. first (good_rows l) (held (end_from s.line l))) e);
       left = ap good_rows e ∙ sym (ap (λ l. rest (good_rows l)) e);
@@ -29,8 +29,8 @@ returns-in-Some c =
       left = ap good_rows on ∙ sym (ap (λ l. rest (good_rows l)) e);
       same = (
         refl,
-        ap (λ l. held (end_from c.next-line-self.result l)) on
-            ∙ held_same c.next-line-self.result (s.line + 1) (sheet s.width (drop c.in-Some.line.length s.rest.now)) (omega (arith, c.next-line-self.ensures))
+        ap (λ l. held (end_from c.next_line-self.result l)) on
+            ∙ held_same c.next_line-self.result (s.line + 1) (sheet s.width (drop c.in-Some.line.length s.rest.now)) (omega (arith, c.next_line-self.ensures))
             ∙ sym (ap (λ l. held (end_from s.line l)) e),
       );
     }
@@ -42,7 +42,7 @@ some n h = omega (arith, h)
 pub returns-in-None : goal.returns-in-None
 returns-in-None c =
     let s = c.args.self.now in
-    let e = (c.in-None.ensures (some (length s.rest.now) (eqb-false _ 0 (sym c.if-is-over.ensures)))).1 in
+    let e = (c.in-None.ensures (some (length s.rest.now) (eqb-false _ 0 (sym c.if-is_over.ensures)))).1 in
     let small : s.line < 2 ^ 64 = search rules in
     let line : s.line ≡ min s.line (2 ^ 64 - 1) = omega (arith, small) in
     record {

@@ -16,9 +16,9 @@ pub put-requires : goal.put-requires
 put-requires g c =
     let o = c.args.self.now in
     let k = linked o.kept in
-    let e = sym c.as-mut-slice.ensures.value in
+    let e = sym c.as_mut_slice.ensures.value in
     record {
-      few = omega (arith, o.few, c.as-mut-slice.ensures.len);
+      few = omega (arith, o.few, c.as_mut_slice.ensures.len);
       chained = subst (λ l. Chained l o.used) e k.chained;
       apart = subst (λ l. Apart (live o.used l)) e k.apart;
     }
@@ -27,39 +27,39 @@ put-requires g c =
 moved : {V Z : Type 0} (join : V → V → V) (x : Cell V) (v : Vec (Place V) Z) (xs ys : List (Place V)) (used : ℕ) (r : Added) → xs ≡ vec_items v → length ys ≡ v.len → Putting join x xs used ys r → Putting join x (vec_items v) used (vec_items (with_items v ys)) r
 moved join x v xs ys used r e n d = subst (λ l. Putting join x (vec_items v) used l r) (sym (with_items_is v ys n)) (subst (λ l. Putting join x l used ys r) e d)
 
-pub invariant-of-self : goal.invariant-of-self
-invariant-of-self g c =
+pub invariant_of-self : goal.invariant_of-self
+invariant_of-self g c =
     let o = c.args.self.now in
-    let n : length c.put.new.places ≡ o.places.len = omega (arith, c.put.auto.places, c.as-mut-slice.ensures.len) in
-    (o.few, (∣ (moved (g.M.Measure.meaning c.args.measure.now).join c.args.new o.places c.as-mut-slice.result.now c.put.new.places o.used Grown c.as-mut-slice.ensures.value n c.in-Grown.ensures).0.linked ∣₁, tt))
+    let n : length c.put.new.places ≡ o.places.len = omega (arith, c.put.auto.places, c.as_mut_slice.ensures.len) in
+    (o.few, (∣ (moved (g.M.Measure.meaning c.args.measure.now).join c.args.new o.places c.as_mut_slice.result.now c.put.new.places o.used Grown c.as_mut_slice.ensures.value n c.in-Grown.ensures).0.linked ∣₁, tt))
 
-pub invariant-of-self-in-Begun : goal.invariant-of-self-in-Begun
-invariant-of-self-in-Begun g c =
+pub invariant_of-self-in-Begun : goal.invariant_of-self-in-Begun
+invariant_of-self-in-Begun g c =
     let o = c.args.self.now in
-    let n : length c.put.new.places ≡ o.places.len = omega (arith, c.put.auto.places, c.as-mut-slice.ensures.len) in
-    (o.few, (∣ (moved (g.M.Measure.meaning c.args.measure.now).join c.args.new o.places c.as-mut-slice.result.now c.put.new.places o.used Begun c.as-mut-slice.ensures.value n c.in-Begun.ensures).0.linked ∣₁, tt))
+    let n : length c.put.new.places ≡ o.places.len = omega (arith, c.put.auto.places, c.as_mut_slice.ensures.len) in
+    (o.few, (∣ (moved (g.M.Measure.meaning c.args.measure.now).join c.args.new o.places c.as_mut_slice.result.now c.put.new.places o.used Begun c.as_mut_slice.ensures.value n c.in-Begun.ensures).0.linked ∣₁, tt))
 
-pub invariant-of-self-in-NoRoom : goal.invariant-of-self-in-NoRoom
-invariant-of-self-in-NoRoom g c =
+pub invariant_of-self-in-NoRoom : goal.invariant_of-self-in-NoRoom
+invariant_of-self-in-NoRoom g c =
     let o = c.args.self.now in
-    let n : length c.put.new.places ≡ o.places.len = omega (arith, c.put.auto.places, c.as-mut-slice.ensures.len) in
-    let same = (moved (g.M.Measure.meaning c.args.measure.now).join c.args.new o.places c.as-mut-slice.result.now c.put.new.places o.used NoRoom c.as-mut-slice.ensures.value n c.in-NoRoom.ensures).0 in
+    let n : length c.put.new.places ≡ o.places.len = omega (arith, c.put.auto.places, c.as_mut_slice.ensures.len) in
+    let same = (moved (g.M.Measure.meaning c.args.measure.now).join c.args.new o.places c.as_mut_slice.result.now c.put.new.places o.used NoRoom c.as_mut_slice.ensures.value n c.in-NoRoom.ensures).0 in
     (o.few, (subst (λ l. ∥ Linked l o.used ∥₁) (sym same) o.kept, tt))
 
 pub returns-in-Grown : goal.returns-in-Grown
 returns-in-Grown g c =
     let o = c.args.self.now in
-    let n : length c.put.new.places ≡ o.places.len = omega (arith, c.put.auto.places, c.as-mut-slice.ensures.len) in
-    adding (g.M.Measure.meaning c.args.measure.now).join c.args.new o _ (linked o.kept) refl (ap length (sym c.as-mut-slice.ensures.value) ∙ c.as-mut-slice.ensures.len) Grown refl (moved (g.M.Measure.meaning c.args.measure.now).join c.args.new o.places c.as-mut-slice.result.now c.put.new.places o.used Grown c.as-mut-slice.ensures.value n c.in-Grown.ensures)
+    let n : length c.put.new.places ≡ o.places.len = omega (arith, c.put.auto.places, c.as_mut_slice.ensures.len) in
+    adding (g.M.Measure.meaning c.args.measure.now).join c.args.new o _ (linked o.kept) refl (ap length (sym c.as_mut_slice.ensures.value) ∙ c.as_mut_slice.ensures.len) Grown refl (moved (g.M.Measure.meaning c.args.measure.now).join c.args.new o.places c.as_mut_slice.result.now c.put.new.places o.used Grown c.as_mut_slice.ensures.value n c.in-Grown.ensures)
 
 pub returns-in-Begun : goal.returns-in-Begun
 returns-in-Begun g c =
     let o = c.args.self.now in
-    let n : length c.put.new.places ≡ o.places.len = omega (arith, c.put.auto.places, c.as-mut-slice.ensures.len) in
-    adding (g.M.Measure.meaning c.args.measure.now).join c.args.new o _ (linked o.kept) refl (ap length (sym c.as-mut-slice.ensures.value) ∙ c.as-mut-slice.ensures.len) Begun refl (moved (g.M.Measure.meaning c.args.measure.now).join c.args.new o.places c.as-mut-slice.result.now c.put.new.places o.used Begun c.as-mut-slice.ensures.value n c.in-Begun.ensures)
+    let n : length c.put.new.places ≡ o.places.len = omega (arith, c.put.auto.places, c.as_mut_slice.ensures.len) in
+    adding (g.M.Measure.meaning c.args.measure.now).join c.args.new o _ (linked o.kept) refl (ap length (sym c.as_mut_slice.ensures.value) ∙ c.as_mut_slice.ensures.len) Begun refl (moved (g.M.Measure.meaning c.args.measure.now).join c.args.new o.places c.as_mut_slice.result.now c.put.new.places o.used Begun c.as_mut_slice.ensures.value n c.in-Begun.ensures)
 
 pub returns-in-NoRoom : goal.returns-in-NoRoom
 returns-in-NoRoom g c =
     let o = c.args.self.now in
-    let n : length c.put.new.places ≡ o.places.len = omega (arith, c.put.auto.places, c.as-mut-slice.ensures.len) in
-    adding (g.M.Measure.meaning c.args.measure.now).join c.args.new o _ (linked o.kept) refl (ap length (sym c.as-mut-slice.ensures.value) ∙ c.as-mut-slice.ensures.len) NoRoom refl (moved (g.M.Measure.meaning c.args.measure.now).join c.args.new o.places c.as-mut-slice.result.now c.put.new.places o.used NoRoom c.as-mut-slice.ensures.value n c.in-NoRoom.ensures)
+    let n : length c.put.new.places ≡ o.places.len = omega (arith, c.put.auto.places, c.as_mut_slice.ensures.len) in
+    adding (g.M.Measure.meaning c.args.measure.now).join c.args.new o _ (linked o.kept) refl (ap length (sym c.as_mut_slice.ensures.value) ∙ c.as_mut_slice.ensures.len) NoRoom refl (moved (g.M.Measure.meaning c.args.measure.now).join c.args.new o.places c.as_mut_slice.result.now c.put.new.places o.used NoRoom c.as_mut_slice.ensures.value n c.in-NoRoom.ensures)

@@ -13,19 +13,19 @@ use Rattle.groups.proofs.held.OpenGroups.sort.Goals as goal
 pub sort-requires : goal.sort-requires
 sort-requires g c =
     let k = linked c.args.self.kept in
-    let e = sym c.as-mut-slice.ensures.value in
+    let e = sym c.as_mut_slice.ensures.value in
     record { within = subst (λ l. c.args.self.used ≤ length l) e k.chained.within; apart = subst (λ l. Apart (live c.args.self.used l)) e k.apart }
 
-pub invariant-of-result : goal.invariant-of-result
-invariant-of-result g c =
+pub invariant_of-result : goal.invariant_of-result
+invariant_of-result g c =
     let k = linked c.args.self.kept in
     let u = c.args.self.used in
     let xs = vec_items c.args.self.places in
     let ys = c.sort.new.places in
-    let n : length ys ≡ c.args.self.places.len = omega (arith, c.sort.auto.places, c.as-mut-slice.ensures.len) in
-    let is : live u ys ≡ in_order (live u xs) = c.sort.ensures.live ∙ ap (λ l. in_order (live u l)) c.as-mut-slice.ensures.value in
+    let n : length ys ≡ c.args.self.places.len = omega (arith, c.sort.auto.places, c.as_mut_slice.ensures.len) in
+    let is : live u ys ≡ in_order (live u xs) = c.sort.ensures.live ∙ ap (λ l. in_order (live u l)) c.as_mut_slice.ensures.value in
     let s : Ordered ys u = record {
-      within = omega (arith, k.chained.within, ap length c.as-mut-slice.ensures.value, c.as-mut-slice.ensures.len);
+      within = omega (arith, k.chained.within, ap length c.as_mut_slice.ensures.value, c.as_mut_slice.ensures.len);
       ascending = subst Ascending (sym is) (ascending_from _ (sorted_in_order (live u xs)));
     } in
     (c.args.self.few, (∣ subst (λ l. Ordered l u) (sym (with_items_is c.args.self.places ys n)) s ∣₁, tt))
@@ -35,8 +35,8 @@ returns g c =
     let u = c.args.self.used in
     let xs = vec_items c.args.self.places in
     let ys = c.sort.new.places in
-    let v = c.as-mut-slice.ensures.value in
-    let n : length ys ≡ c.args.self.places.len = omega (arith, c.sort.auto.places, c.as-mut-slice.ensures.len) in
+    let v = c.as_mut_slice.ensures.value in
+    let n : length ys ≡ c.args.self.places.len = omega (arith, c.sort.auto.places, c.as_mut_slice.ensures.len) in
     let items = with_items_is c.args.self.places ys n in
     let long = sym (length_open xs u (linked c.args.self.kept)) in
     record {

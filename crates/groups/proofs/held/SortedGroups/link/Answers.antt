@@ -11,15 +11,15 @@ use Rattle.groups.proofs.held.SortedGroups.link.Goals as goal
 pub relink-requires : goal.relink-requires
 relink-requires g c =
     let k = ordered c.args.self.kept in
-    record { within = omega (arith, k.within, ap length c.as-mut-slice.ensures.value); few = omega (arith, c.args.self.few, c.as-mut-slice.ensures.len) }
+    record { within = omega (arith, k.within, ap length c.as_mut_slice.ensures.value); few = omega (arith, c.args.self.few, c.as_mut_slice.ensures.len) }
 
-pub invariant-of-result : goal.invariant-of-result
-invariant-of-result g c =
+pub invariant_of-result : goal.invariant_of-result
+invariant_of-result g c =
     let k = ordered c.args.self.kept in
     let u = c.args.self.used in
     let ys = c.relink.new.places in
-    let n : length ys ≡ c.args.self.places.len = omega (arith, c.relink.auto.places, c.as-mut-slice.ensures.len) in
-    let is : live u ys ≡ live u (vec_items c.args.self.places) = ap (take u) (c.relink.ensures.cells ∙ ap cells_of c.as-mut-slice.ensures.value) in
+    let n : length ys ≡ c.args.self.places.len = omega (arith, c.relink.auto.places, c.as_mut_slice.ensures.len) in
+    let is : live u ys ≡ live u (vec_items c.args.self.places) = ap (take u) (c.relink.ensures.cells ∙ ap cells_of c.as_mut_slice.ensures.value) in
     let s : Linked ys u = record { chained = c.relink.ensures.chained; apart = subst Apart (sym is) (sorted_apart _ (sorted_from _ k.ascending)) } in
     (c.args.self.few, (∣ subst (λ l. Linked l u) (sym (with_items_is c.args.self.places ys n)) s ∣₁, tt))
 
@@ -28,8 +28,8 @@ returns g c =
     let k = ordered c.args.self.kept in
     let u = c.args.self.used in
     let ys = c.relink.new.places in
-    let n : length ys ≡ c.args.self.places.len = omega (arith, c.relink.auto.places, c.as-mut-slice.ensures.len) in
-    let cells = ap cells_of (with_items_is c.args.self.places ys n) ∙ c.relink.ensures.cells ∙ ap cells_of c.as-mut-slice.ensures.value in
+    let n : length ys ≡ c.args.self.places.len = omega (arith, c.relink.auto.places, c.as_mut_slice.ensures.len) in
+    let cells = ap cells_of (with_items_is c.args.self.places ys n) ∙ c.relink.ensures.cells ∙ ap cells_of c.as_mut_slice.ensures.value in
     record {
       groups = ap (λ l. in_order (take u l)) cells ∙ in_order_sorted _ (sorted_from _ k.ascending);
       arrival = ap (take u) cells;

@@ -24,31 +24,31 @@ start g v cs sh l =
 pub returns-then-self : goal.returns-then-self
 returns-then-self g c cs sh = let many = sh.many in nil_from_length cs (omega arith)
 
-pub returns-in-err-shape : goal.returns-in-err-shape
-returns-in-err-shape g c cs sh =
+pub returns-in_err-shape : goal.returns-in_err-shape
+returns-in_err-shape g c cs sh =
     let s = start g c.args.self cs sh (omega arith) in
-    none_some _ (c.in-err-shape.ensures ∙ s.shaped)
+    none_some _ (c.in_err-shape.ensures ∙ s.shaped)
 
-pub returns-in-err-left : goal.returns-in-err-left
-returns-in-err-left g c cs sh =
+pub returns-in_err-left : goal.returns-in_err-left
+returns-in_err-left g c cs sh =
     let s = start g c.args.self cs sh (omega arith) in
-    let p = some_pair _ _ _ _ (c.in-ok-shape.ensures ∙ s.shaped) in
-    none_some _ (c.in-err-left.ensures ∙ ap (number 2) p.1 ∙ s.counted)
+    let p = some_pair _ _ _ _ (c.in_ok-shape.ensures ∙ s.shaped) in
+    none_some _ (c.in_err-left.ensures ∙ ap (number 2) p.1 ∙ s.counted)
 
 pub returns-then-length-rest : goal.returns-then-length-rest
 returns-then-length-rest g c cs sh =
     let s = start g c.args.self cs sh (omega arith) in
-    let p = some_pair _ _ _ _ (c.in-ok-shape.ensures ∙ s.shaped) in
-    let q = some_pair _ _ _ _ (c.in-ok-left.ensures ∙ ap (number 2) p.1 ∙ s.counted) in
-    let within = (cut (laws g) s c.in-ok-shape.shape c.in-ok-left.left c.group_length.result c.in-ok-left.rest.now p.0 q.0 c.group_length.ensures.value q.1).within in
+    let p = some_pair _ _ _ _ (c.in_ok-shape.ensures ∙ s.shaped) in
+    let q = some_pair _ _ _ _ (c.in_ok-left.ensures ∙ ap (number 2) p.1 ∙ s.counted) in
+    let within = (cut (laws g) s c.in_ok-shape.shape c.in_ok-left.left c.group_length.result c.in_ok-left.rest.now p.0 q.0 c.group_length.ensures.value q.1).within in
     absurd (omega arith)
 
 pub returns : goal.returns
 returns g c cs sh =
     let s = start g c.args.self cs sh (omega arith) in
-    let p = some_pair _ _ _ _ (c.in-ok-shape.ensures ∙ s.shaped) in
-    let q = some_pair _ _ _ _ (c.in-ok-left.ensures ∙ ap (number 2) p.1 ∙ s.counted) in
-    let k = cut (laws g) s c.in-ok-shape.shape c.in-ok-left.left c.group_length.result c.in-ok-left.rest.now p.0 q.0 c.group_length.ensures.value q.1 in
+    let p = some_pair _ _ _ _ (c.in_ok-shape.ensures ∙ s.shaped) in
+    let q = some_pair _ _ _ _ (c.in_ok-left.ensures ∙ ap (number 2) p.1 ∙ s.counted) in
+    let k = cut (laws g) s c.in_ok-shape.shape c.in_ok-left.left c.group_length.result c.in_ok-left.rest.now p.0 q.0 c.group_length.ensures.value q.1 in
     let many = sh.many in
     let one_less = ap length s.is in (
       s.first,

@@ -30,17 +30,17 @@ reads_here g v s gs sh l = ap (λ x. group g.M.Measure.meaning x most_rows v.byt
 pub returns-then-self-eq0 : goal.returns-then-self-eq0
 returns-then-self-eq0 g c s gs sh = let many = sh.many in nil_from_length gs (omega arith)
 
-pub returns-in-err-cell : goal.returns-in-err-cell
-returns-in-err-cell g c s gs sh =
+pub returns-in_err-cell : goal.returns-in_err-cell
+returns-in_err-cell g c s gs sh =
     let l : 0 < c.args.self.left = omega arith in
     let n = start g c.args.self s gs sh l in
-    none_some _ (c.in-err-cell.ensures ∙ ap (changed (cell_of c.args.self.number)) (reads_here g c.args.self s gs sh l ∙ n.reads))
+    none_some _ (c.in_err-cell.ensures ∙ ap (changed (cell_of c.args.self.number)) (reads_here g c.args.self s gs sh l ∙ n.reads))
 
 pub returns : goal.returns
 returns g c s gs sh =
     let l : 0 < c.args.self.left = omega arith in
     let n = start g c.args.self s gs sh l in
-    let p = some_pair _ _ _ _ (c.in-ok-cell.ensures ∙ ap (changed (cell_of c.args.self.number)) (reads_here g c.args.self s gs sh l ∙ n.reads)) in
+    let p = some_pair _ _ _ _ (c.in_ok-cell.ensures ∙ ap (changed (cell_of c.args.self.number)) (reads_here g c.args.self s gs sh l ∙ n.reads)) in
     let many = sh.many in
     let one_less = ap length n.is in
     (n.first, n.others, n.is, p.0, record { shape = sh.shape; wide = sh.wide; many = omega arith; few = n.others-few; each = n.others-good; bytes = p.1 }, refl)

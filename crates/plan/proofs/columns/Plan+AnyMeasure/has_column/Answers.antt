@@ -6,4 +6,4 @@ use Rattle.plan.proofs.columns.Plan+AnyMeasure.has_column.Goals as goal
 
 pub returns : goal.returns
 unfolding columns_of
-returns c = c.is-some.ensures ∙ ap is_some c.find.ensures.value ∙ ap (λ l. is_some (place l c.args.name.now 0)) (sym (paired_names (texts c.args.self.now.titles) c.args.self.now.columns.places))
+returns c = c.is_some.ensures ∙ ap is_some c.find.ensures.value ∙ ap (λ l. is_some (place l c.args.name.now 0)) (sym (paired_names (texts c.args.self.now.titles) c.args.self.now.columns.places))
