@@ -13,11 +13,11 @@ use Rattle.conditions.proofs.reading.read_condition.Goals as goal
 pub returns-in_err-condition : goal.returns-in_err-condition
 unfolding rest condition_of
 returns-in_err-condition c =
-    let y = err_from_is_err_and c.from-residual.result c.from-residual.ensures.1 in
+    let y = err_from_is_err_and c.from_residual.result c.from_residual.ensures.1 in
     record {
       value = subst (Gave (condition_of (looks c.args.names.now) (here c.args.words.now) (to_come c.args.words.now)) c.args.words.now c.args.words.now) (sym (y.1 ∙ ap Err y.2)) (sym c.in_err-condition.ensures.value, refl);
-      fields = IfOk-from_err c.from-residual.result _ c.from-residual.ensures.0;
-      limits = IfOk-from_err c.from-residual.result _ c.from-residual.ensures.0;
+      fields = IfOk-from_err c.from_residual.result _ c.from_residual.ensures.0;
+      limits = IfOk-from_err c.from_residual.result _ c.from_residual.ensures.0;
     }
 
 pub returns : goal.returns

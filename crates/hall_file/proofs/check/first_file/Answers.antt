@@ -10,7 +10,7 @@ laws : (g : Over) → Lawful g.M.Measure.meaning g.M.Measure.found
 laws g = record { keeps = g.met.M.Measure.keeps; formed = g.met.M.Measure.formed; finds = g.met.M.Measure.found_by_its_kind; found-by = g.met.M.Measure.has_the_kind_it_is_found_by }
 
 pub returns-in_err-head : goal.returns-in_err-head
-returns-in_err-head g c = subst (FirstFile g.M.Measure.meaning c.args.bytes.now) (sym c.from-residual.ensures) (no_head (laws g) c.args.bytes.now c.in_err-head.ensures)
+returns-in_err-head g c = subst (FirstFile g.M.Measure.meaning c.args.bytes.now) (sym c.from_residual.ensures) (no_head (laws g) c.args.bytes.now c.in_err-head.ensures)
 
 pub take_columns-requires : goal.take_columns-requires
 take_columns-requires g c =
@@ -20,7 +20,7 @@ take_columns-requires g c =
     }
 
 pub returns-in_err-rest : goal.returns-in_err-rest
-returns-in_err-rest g c = subst (FirstFile g.M.Measure.meaning c.args.bytes.now) (sym c.from-residual-in_err-rest.ensures) (no_columns (laws g) c.args.bytes.now c.in_ok-head.head c.in_ok-head.body.now c.in_ok-head.ensures c.in_err-rest.ensures)
+returns-in_err-rest g c = subst (FirstFile g.M.Measure.meaning c.args.bytes.now) (sym c.from_residual-in_err-rest.ensures) (no_columns (laws g) c.args.bytes.now c.in_ok-head.head c.in_ok-head.body.now c.in_ok-head.ensures c.in_err-rest.ensures)
 
 pub overflow_sub-end : goal.overflow_sub-end
 overflow_sub-end g c =

@@ -10,10 +10,10 @@ laws : (g : Over) → Lawful g.M.Measure.meaning g.M.Measure.found
 laws g = record { keeps = g.met.M.Measure.keeps; formed = g.met.M.Measure.formed; finds = g.met.M.Measure.found_by_its_kind; found-by = g.met.M.Measure.has_the_kind_it_is_found_by }
 
 pub returns-in_err-shape : goal.returns-in_err-shape
-returns-in_err-shape g c = ap passed c.from-residual.ensures ∙ column_no_shape g.M.Measure.meaning g.M.Measure.found c.args.head.fields c.args.head.rows c.args.bytes.now c.in_err-shape.ensures
+returns-in_err-shape g c = ap passed c.from_residual.ensures ∙ column_no_shape g.M.Measure.meaning g.M.Measure.found c.args.head.fields c.args.head.rows c.args.bytes.now c.in_err-shape.ensures
 
 pub returns-in_err-count : goal.returns-in_err-count
-returns-in_err-count g c = ap passed c.from-residual-in_err-count.ensures ∙ column_no_count g.M.Measure.meaning g.M.Measure.found c.args.head.fields c.args.head.rows c.args.bytes.now c.in_ok-shape.shape c.in_ok-shape.rest.now c.in_ok-shape.ensures c.in_err-count.ensures
+returns-in_err-count g c = ap passed c.from_residual-in_err-count.ensures ∙ column_no_count g.M.Measure.meaning g.M.Measure.found c.args.head.fields c.args.head.rows c.args.bytes.now c.in_ok-shape.shape c.in_ok-shape.rest.now c.in_ok-shape.ensures c.in_err-count.ensures
 
 pub take_groups-requires : goal.take_groups-requires
 take_groups-requires g c =

@@ -12,7 +12,7 @@ loop-columns_left-init g c = refl
 
 pub returns-in_err-rest : goal.returns-in_err-rest
 returns-in_err-rest g c =
-    ap passed c.from-residual.ensures
+    ap passed c.from_residual.ensures
     ∙ after_none (column g.M.Measure.meaning g.M.Measure.found c.args.head.fields c.args.head.rows) c.loop-columns_left.columns_left c.loop-columns_left.rest.now c.loop-columns_left-test.true c.in_err-rest.ensures
     ∙ sym c.loop-columns_left.invariant
 

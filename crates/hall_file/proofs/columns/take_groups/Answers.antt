@@ -12,7 +12,7 @@ laws g = record { keeps = g.met.M.Measure.keeps; formed = g.met.M.Measure.formed
 
 pub returns-in_err-cell : goal.returns-in_err-cell
 returns-in_err-cell g c =
-    ap passed c.from-residual.ensures
+    ap passed c.from_residual.ensures
     ∙ groups_no_group g.M.Measure.meaning c.args.shape.now c.loop-groups_left.last c.loop-groups_left.rows_left c.loop-groups_left.rest.now c.loop-groups_left.groups_left c.loop-groups_left-test.true (no_cell 0 _ c.in_err-cell.ensures)
     ∙ sym c.loop-groups_left.invariant.0
 

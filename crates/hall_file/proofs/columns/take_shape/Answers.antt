@@ -17,11 +17,11 @@ returns-in_default g c =
 
 pub returns-in_err-measure : goal.returns-in_err-measure
 returns-in_err-measure g c =
-    ap seen c.from-residual.ensures ∙ shape_no_kind (laws g) c.args.fields c.requires c.args.bytes.now c.in_err-measure.ensures
+    ap seen c.from_residual.ensures ∙ shape_no_kind (laws g) c.args.fields c.requires c.args.bytes.now c.in_err-measure.ensures
 
 pub returns-in_err-measured : goal.returns-in_err-measured
 returns-in_err-measured g c =
-    ap seen c.from-residual-in_err-measured.ensures
+    ap seen c.from_residual-in_err-measured.ensures
     ∙ shape_no_field (laws g) c.args.fields c.requires c.args.bytes.now c.in_ok-measure.measure c.in_ok-measure.ensures
     (c.in_err-measured.ensures ∙ ap (λ n. measured_of n c.args.fields (get_or c.args.bytes.now 1 0)) c.fields.ensures)
 

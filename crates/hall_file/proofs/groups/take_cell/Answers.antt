@@ -7,13 +7,13 @@ use Rattle.hall_file.proofs.Steps.{group_no_key, group_no_rows, group_no_value, 
 use Rattle.hall_file.proofs.groups.take_cell.Goals as goal
 
 pub returns-in_err-key : goal.returns-in_err-key
-returns-in_err-key g c = ap seen c.from-residual.ensures ∙ ap (changed (cell_of c.args.column)) (group_no_key g.M.Measure.meaning c.args.shape.now c.args.left c.args.bytes.now c.in_err-key.ensures)
+returns-in_err-key g c = ap seen c.from_residual.ensures ∙ ap (changed (cell_of c.args.column)) (group_no_key g.M.Measure.meaning c.args.shape.now c.args.left c.args.bytes.now c.in_err-key.ensures)
 
 pub returns-in_err-rows : goal.returns-in_err-rows
-returns-in_err-rows g c = ap seen c.from-residual-in_err-rows.ensures ∙ ap (changed (cell_of c.args.column)) (group_no_rows g.M.Measure.meaning c.args.shape.now c.args.left c.args.bytes.now c.in_ok-key.key c.in_ok-key.rest.now c.in_ok-key.ensures c.in_err-rows.ensures)
+returns-in_err-rows g c = ap seen c.from_residual-in_err-rows.ensures ∙ ap (changed (cell_of c.args.column)) (group_no_rows g.M.Measure.meaning c.args.shape.now c.args.left c.args.bytes.now c.in_ok-key.key c.in_ok-key.rest.now c.in_ok-key.ensures c.in_err-rows.ensures)
 
 pub returns-in_err-value : goal.returns-in_err-value
-returns-in_err-value g c = ap seen c.from-residual-in_err-value.ensures ∙ ap (changed (cell_of c.args.column)) (group_no_value g.M.Measure.meaning c.args.shape.now c.args.left c.args.bytes.now c.in_ok-key.key c.in_ok-key.rest.now c.in_ok-key.ensures c.in_ok-rows.rows c.in_ok-rows.rest.now c.in_ok-rows.ensures c.in_err-value.ensures)
+returns-in_err-value g c = ap seen c.from_residual-in_err-value.ensures ∙ ap (changed (cell_of c.args.column)) (group_no_value g.M.Measure.meaning c.args.shape.now c.args.left c.args.bytes.now c.in_ok-key.key c.in_ok-key.rest.now c.in_ok-key.ensures c.in_ok-rows.rows c.in_ok-rows.rest.now c.in_ok-rows.ensures c.in_err-value.ensures)
 
 pub returns : goal.returns
 returns g c = ap (changed (cell_of c.args.column)) (group_is g.M.Measure.meaning c.args.shape.now c.args.left c.args.bytes.now c.in_ok-key.key c.in_ok-key.rest.now c.in_ok-key.ensures c.in_ok-rows.rows c.in_ok-rows.rest.now c.in_ok-rows.ensures c.in_ok-value.value c.in_ok-value.rest.now c.in_ok-value.ensures)

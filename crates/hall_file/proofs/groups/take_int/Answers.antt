@@ -10,7 +10,7 @@ use Rattle.hall_file.proofs.groups.take_int.Goals as goal
 
 pub returns-in_err-word : goal.returns-in_err-word
 unfolding int
-returns-in_err-word c = ap seen c.from-residual.ensures ∙ ap (λ o. kept is_row_value (changed (to_z w32) o)) c.in_err-word.ensures
+returns-in_err-word c = ap seen c.from_residual.ensures ∙ ap (λ o. kept is_row_value (changed (to_z w32) o)) c.in_err-word.ensures
 
 pub returns-then-is_row_value : goal.returns-then-is_row_value
 unfolding int

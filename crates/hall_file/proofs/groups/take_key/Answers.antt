@@ -9,7 +9,7 @@ pub loop-i-init : goal.loop-i-init
 loop-i-init c = filled_none c.args.width c.args.bytes.now
 
 pub returns-in_err-value : goal.returns-in_err-value
-returns-in_err-value c = ap seen c.from-residual.ensures ∙ filled_fails c.args.width c.args.bytes.now c.loop-i.i c.loop-i.key c.loop-i.rest.now (omega arith) c.loop-i.invariant c.in_err-value.ensures
+returns-in_err-value c = ap seen c.from_residual.ensures ∙ filled_fails c.args.width c.args.bytes.now c.loop-i.i c.loop-i.key c.loop-i.rest.now (omega arith) c.loop-i.invariant c.in_err-value.ensures
 
 pub loop-i-preserved : goal.loop-i-preserved
 loop-i-preserved c =

@@ -8,7 +8,7 @@ use Rattle.hall_file.proofs.groups.take_rows.Goals as goal
 
 pub returns-in_err-rows : goal.returns-in_err-rows
 unfolding rows
-returns-in_err-rows c = ap seen c.from-residual.ensures ∙ ap (kept (fits c.args.left)) c.in_err-rows.ensures
+returns-in_err-rows c = ap seen c.from_residual.ensures ∙ ap (kept (fits c.args.left)) c.in_err-rows.ensures
 
 pub returns-then-fits : goal.returns-then-fits
 unfolding rows

@@ -12,7 +12,7 @@ returns-in_err-left g c fields rows =
     let z = file_size g.M.Measure.meaning fields rows c.args.shapes.now c.args.cells.now in
     let short = c.in_err-left.ensures in
     let more : c.args.room < length (file_bytes g.M.Measure.meaning (content_of fields rows c.args.shapes.now c.args.cells.now)) = omega arith in
-    subst (Within c.args.room (length (file_bytes g.M.Measure.meaning (content_of fields rows c.args.shapes.now c.args.cells.now)))) (sym c.from-residual.ensures) more
+    subst (Within c.args.room (length (file_bytes g.M.Measure.meaning (content_of fields rows c.args.shapes.now c.args.cells.now)))) (sym c.from_residual.ensures) more
 
 pub loop-i-init : goal.loop-i-init
 loop-i-init g c = let left = c.in_ok-left.ensures in (omega arith, omega arith)
@@ -29,7 +29,7 @@ returns-in_err-groups g c fields rows =
     let short = c.in_err-groups.ensures in
     let inv = c.loop-i.invariant.0 in
     let more : c.args.room < length (file_bytes m (content_of fields rows ss cs)) = omega arith in
-    subst (Within c.args.room (length (file_bytes m (content_of fields rows ss cs)))) (sym c.from-residual-in_err-groups.ensures) more
+    subst (Within c.args.room (length (file_bytes m (content_of fields rows ss cs)))) (sym c.from_residual-in_err-groups.ensures) more
 
 pub returns-in_err-left-2 : goal.returns-in_err-left-2
 returns-in_err-left-2 g c fields rows =
@@ -46,7 +46,7 @@ returns-in_err-left-2 g c fields rows =
     let same = ap (λ x. length (groups_bytes m x (column i cs))) c.index-shapes-i.is in
     let inv = c.loop-i.invariant.0 in
     let more : c.args.room < length (file_bytes m (content_of fields rows ss cs)) = omega arith in
-    subst (Within c.args.room (length (file_bytes m (content_of fields rows ss cs)))) (sym c.from-residual-in_err-left-2.ensures) more
+    subst (Within c.args.room (length (file_bytes m (content_of fields rows ss cs)))) (sym c.from_residual-in_err-left-2.ensures) more
 
 pub loop-i-preserved : goal.loop-i-preserved
 loop-i-preserved g c =

@@ -24,7 +24,7 @@ returns-in_err-left g c =
     let short = c.in_err-left.ensures in
     let inv = c.loop-i.invariant in
     let more : c.args.room < length all = omega arith in
-    subst (LeftOf c.args.room (length all)) (sym c.from-residual.ensures) more
+    subst (LeftOf c.args.room (length all)) (sym c.from_residual.ensures) more
 
 pub loop-i-preserved : goal.loop-i-preserved
 loop-i-preserved g c =

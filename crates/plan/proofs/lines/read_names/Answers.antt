@@ -8,18 +8,18 @@ use Rattle.plan.proofs.lines.read_names.Goals as goal
 
 pub returns-in_err-read_name : goal.returns-in_err-read_name
 returns-in_err-read_name c =
-    let y = err_from_is_err_and c.from-residual.result c.from-residual.ensures.1 in
+    let y = err_from_is_err_and c.from_residual.result c.from_residual.ensures.1 in
     record {
-      shorter = IfOk-from_err c.from-residual.result _ c.from-residual.ensures.0;
+      shorter = IfOk-from_err c.from_residual.result _ c.from_residual.ensures.0;
       value = λ more done l e. fails _ _ (λ _. done (texts c.read_name.new.table)) _ _ _ y.1 y.2
           (names_first more done c.args.upper c.args.most l c.args.words.now (texts c.args.table.now) e ∙ c.in_err-read_name.ensures.value more);
     }
 
 pub returns-in_err-read_name-2 : goal.returns-in_err-read_name-2
 returns-in_err-read_name-2 c =
-    let y = err_from_is_err_and c.from-residual-in_err-read_name-2.result c.from-residual-in_err-read_name-2.ensures.1 in
+    let y = err_from_is_err_and c.from_residual-in_err-read_name-2.result c.from_residual-in_err-read_name-2.ensures.1 in
     record {
-      shorter = IfOk-from_err c.from-residual-in_err-read_name-2.result _ c.from-residual-in_err-read_name-2.ensures.0;
+      shorter = IfOk-from_err c.from_residual-in_err-read_name-2.result _ c.from_residual-in_err-read_name-2.ensures.0;
       value = λ more done l e. fails _ _ (λ _. done (texts c.read_name-in-loop-words.new.table)) _ _ _ y.1 y.2
           (names_first more done c.args.upper c.args.most l c.args.words.now (texts c.args.table.now) e
           ∙ c.in_ok-read_name.ensures.value more

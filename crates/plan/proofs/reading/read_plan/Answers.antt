@@ -14,7 +14,7 @@ returns-then-text-gt-MOST_BYTES c = too_long c.args.text.now c.if-text-gt-MOST_B
 
 pub returns-in_err-read_names : goal.returns-in_err-read_names
 returns-in_err-read_names c =
-    let y = err_from_is_err_and c.from-residual.result c.from-residual.ensures.1 in
+    let y = err_from_is_err_and c.from_residual.result c.from_residual.ensures.1 in
     let u = subst (λ a. Unread a c.loop-awaits.plan) c.in-Rows-Rows.is-0 c.loop-awaits.invariant.1 in
     refused _ _ _ _ y.1 y.2
     (begins c.args.text.now c.of-words.result c.if-text-gt-MOST_BYTES.false c.of-words.ensures.words c.of-words.ensures.place
@@ -38,7 +38,7 @@ loop-awaits-preserved-in-Rows-Rows c =
 
 pub returns-in_err-read_names-2 : goal.returns-in_err-read_names-2
 returns-in_err-read_names-2 c =
-    let y = err_from_is_err_and c.from-residual-in_err-read_names-2.result c.from-residual-in_err-read_names-2.ensures.1 in
+    let y = err_from_is_err_and c.from_residual-in_err-read_names-2.result c.from_residual-in_err-read_names-2.ensures.1 in
     let u = subst (λ a. Unread a c.loop-awaits.plan) c.in-Base-Base.is-0 c.loop-awaits.invariant.1 in
     let rs = texts c.loop-awaits.plan.names.rows in
     refused _ _ _ _ y.1 y.2
@@ -65,7 +65,7 @@ loop-awaits-preserved-in-Base-Base c =
 
 pub returns-in_err-read_column : goal.returns-in_err-read_column
 returns-in_err-read_column c =
-    let y = err_from_is_err_and c.from-residual-in_err-read_column.result c.from-residual-in_err-read_column.ensures.1 in
+    let y = err_from_is_err_and c.from_residual-in_err-read_column.result c.from_residual-in_err-read_column.ensures.1 in
     refused _ _ _ _ y.1 y.2
     (begins c.args.text.now c.of-words.result c.if-text-gt-MOST_BYTES.false c.of-words.ensures.words c.of-words.ensures.place
     ∙ c.loop-awaits.invariant.0

@@ -9,21 +9,21 @@ use Rattle.conditions.proofs.reader.Reader.+conjunction_disjunction_term.Goals a
 
 pub conjunction-returns-in_err-term : goal.conjunction-returns-in_err-term
 conjunction-returns-in_err-term t c =
-    let y = err_from_is_err_and c.from-residual.result c.from-residual.ensures.1 in
+    let y = err_from_is_err_and c.from_residual.result c.from_residual.ensures.1 in
     record {
       on = c.term.ensures.on;
-      grown = IfOk-from_err c.from-residual.result _ c.from-residual.ensures.0;
-      ends = IfOk-from_err c.from-residual.result _ c.from-residual.ensures.0;
+      grown = IfOk-from_err c.from_residual.result _ c.from_residual.ensures.0;
+      ends = IfOk-from_err c.from_residual.result _ c.from_residual.ensures.0;
       value = λ o ls d. fails _ _ _ (λ _. after o (tree c.term.new.out) ls) _ _ _ y.1 y.2 (c.in_err-term.ensures.value (opened o ls) d);
     }
 
 pub conjunction-returns-in_err-term-2 : goal.conjunction-returns-in_err-term-2
 conjunction-returns-in_err-term-2 t c =
-    let y = err_from_is_err_and c.from-residual-in_err-term-2.result c.from-residual-in_err-term-2.ensures.1 in
+    let y = err_from_is_err_and c.from_residual-in_err-term-2.result c.from_residual-in_err-term-2.ensures.1 in
     record {
       on = two _ _ _ (two _ _ _ (two _ _ _ c.term.ensures.on c.loop-self.invariant.0) c.advance.ensures.on) c.term-in-And.ensures.on;
-      grown = IfOk-from_err c.from-residual-in_err-term-2.result _ c.from-residual-in_err-term-2.ensures.0;
-      ends = IfOk-from_err c.from-residual-in_err-term-2.result _ c.from-residual-in_err-term-2.ensures.0;
+      grown = IfOk-from_err c.from_residual-in_err-term-2.result _ c.from_residual-in_err-term-2.ensures.0;
+      ends = IfOk-from_err c.from_residual-in_err-term-2.result _ c.from_residual-in_err-term-2.ensures.0;
       value = λ o ls d. fails _ _ _ (λ _. after o (tree c.term-in-And.new.out) ls) _ _ _ y.1 y.2
           (c.in_ok-term.ensures.value (opened o ls) d ∙ c.loop-self.invariant.1 o ls d ∙ joins_and (looks c.args.names.now) c.loop-self.self o (tree c.loop-self.out) ls c.advance.new.self c.in-And.ensures c.advance.ensures.goes
           ∙ c.in_err-term-2.ensures.value (record { here = record { before = along (tree c.loop-self.out) ∷ []; ors = o }; outer = ls }) d);
@@ -51,11 +51,11 @@ conjunction-returns t c = record {
 
 pub disjunction-returns-in_err-conjunction-2 : goal.disjunction-returns-in_err-conjunction-2
 disjunction-returns-in_err-conjunction-2 t c =
-    let y = err_from_is_err_and c.from-residual-in_err-conjunction-2.result c.from-residual-in_err-conjunction-2.ensures.1 in
+    let y = err_from_is_err_and c.from_residual-in_err-conjunction-2.result c.from_residual-in_err-conjunction-2.ensures.1 in
     record {
       on = two _ _ _ (two _ _ _ (two _ _ _ c.conjunction.ensures.on c.loop-self.invariant.0) c.advance.ensures.on) c.conjunction-in-Or.ensures.on;
-      grown = IfOk-from_err c.from-residual-in_err-conjunction-2.result _ c.from-residual-in_err-conjunction-2.ensures.0;
-      ends = IfOk-from_err c.from-residual-in_err-conjunction-2.result _ c.from-residual-in_err-conjunction-2.ensures.0;
+      grown = IfOk-from_err c.from_residual-in_err-conjunction-2.result _ c.from_residual-in_err-conjunction-2.ensures.0;
+      ends = IfOk-from_err c.from_residual-in_err-conjunction-2.result _ c.from_residual-in_err-conjunction-2.ensures.0;
       value = λ ls d. fails _ _ _ (λ _. after None (tree c.conjunction-in-Or.new.out) ls) _ _ _ y.1 y.2
           (c.in_ok-conjunction.ensures.value None ls d ∙ c.loop-self.invariant.1 ls d ∙ joins_or (looks c.args.names.now) c.loop-self.self None (tree c.loop-self.out) ls c.advance.new.self c.in-Or.ensures c.advance.ensures.goes
           ∙ c.in_err-conjunction-2.ensures.value (Some (tree c.loop-self.out)) ls d);
@@ -90,23 +90,23 @@ term-returns-then-depth-eq0 t c = record {
   value = λ p d. denied_too_deep (looks c.args.names.now) c.args.self.now p _ c.in-Denial.ensures (omega (arith, d, c.if-depth-eq0.true)) c.limit.ensures;
 }
 
-pub term-returns-in_err-term : goal.term-returns-in_err-term
-term-returns-in_err-term t c =
-    let y = err_from_is_err_and c.from-residual.result c.from-residual.ensures.1 in
+pub term-returns-in_err-term-in-Denial : goal.term-returns-in_err-term-in-Denial
+term-returns-in_err-term-in-Denial t c =
+    let y = err_from_is_err_and c.from_residual.result c.from_residual.ensures.1 in
     record {
       on = two _ _ _ c.advance.ensures.on c.term.ensures.on;
-      grown = IfOk-from_err c.from-residual.result _ c.from-residual.ensures.0;
+      grown = IfOk-from_err c.from_residual.result _ c.from_residual.ensures.0;
       value = λ p d.
           let low : deep p < 8 = omega (arith, d, c.if-depth-eq0.false) in
           let more : deep (denied p) + (c.args.depth - 1) ≡ 8 = omega (arith, d, c.if-depth-eq0.false) in
           fails _ _ _ (λ _. settled p (tree c.term.new.out)) _ _ _ y.1 y.2
           (denies (looks c.args.names.now) c.args.self.now p c.advance.new.self c.in-Denial.ensures low c.advance.ensures.goes
-          ∙ c.in_err-term.ensures.value (denied p) more);
+          ∙ c.in_err-term-in-Denial.ensures.value (denied p) more);
     }
 
-pub term-returns-in_ok-term : goal.term-returns-in_ok-term
-term-returns-in_ok-term t c =
-    let g = denial_grown c.term.new.out c.push.new.self c.push.ensures.used _ c.term.new.self c.args.depth (omega (arith, c.if-depth-eq0.false)) c.in_ok-term.ensures.grown c.push.ensures.trees in
+pub term-returns-in_ok-term-in-Denial : goal.term-returns-in_ok-term-in-Denial
+term-returns-in_ok-term-in-Denial t c =
+    let g = denial_grown c.term.new.out c.push.new.self c.push.ensures.used _ c.term.new.self c.args.depth (omega (arith, c.if-depth-eq0.false)) c.in_ok-term-in-Denial.ensures.grown c.push.ensures.trees in
     record {
       on = two _ _ _ c.advance.ensures.on c.term.ensures.on;
       grown = g.0;
@@ -114,7 +114,7 @@ term-returns-in_ok-term t c =
           let low : deep p < 8 = omega (arith, d, c.if-depth-eq0.false) in
           let more : deep (denied p) + (c.args.depth - 1) ≡ 8 = omega (arith, d, c.if-depth-eq0.false) in
           denies (looks c.args.names.now) c.args.self.now p c.advance.new.self c.in-Denial.ensures low c.advance.ensures.goes
-          ∙ c.in_ok-term.ensures.value (denied p) more
+          ∙ c.in_ok-term-in-Denial.ensures.value (denied p) more
           ∙ ap (λ u. rest (looks c.args.names.now) c.term.new.self (settled p u)) (sym g.1);
     }
 
@@ -125,23 +125,23 @@ term-returns-then-depth-eq0-2 t c = record {
   value = λ p d. bracket_too_deep (looks c.args.names.now) c.args.self.now p _ c.in-Bracket.ensures (omega (arith, d, c.if-depth-eq0-2.true)) c.limit-then-depth-eq0-2.ensures;
 }
 
-pub term-returns-in_err-disjunction : goal.term-returns-in_err-disjunction
-term-returns-in_err-disjunction t c =
-    let y = err_from_is_err_and c.from-residual-in_err-disjunction.result c.from-residual-in_err-disjunction.ensures.1 in
+pub term-returns-in_err-disjunction-in-Bracket : goal.term-returns-in_err-disjunction-in-Bracket
+term-returns-in_err-disjunction-in-Bracket t c =
+    let y = err_from_is_err_and c.from_residual-in_err-disjunction-in-Bracket.result c.from_residual-in_err-disjunction-in-Bracket.ensures.1 in
     record {
       on = two _ _ _ c.advance-in-Bracket.ensures.on c.disjunction.ensures.on;
-      grown = IfOk-from_err c.from-residual-in_err-disjunction.result _ c.from-residual-in_err-disjunction.ensures.0;
+      grown = IfOk-from_err c.from_residual-in_err-disjunction-in-Bracket.result _ c.from_residual-in_err-disjunction-in-Bracket.ensures.0;
       value = λ p d.
           let low : deep p < 8 = omega (arith, d, c.if-depth-eq0-2.false) in
           let more : deep (inside p) + (c.args.depth - 1) ≡ 8 = omega (arith, d, c.if-depth-eq0-2.false) in
           fails _ _ _ (λ _. settled p (tree c.disjunction.new.out)) _ _ _ y.1 y.2
           (enters (looks c.args.names.now) c.args.self.now p c.advance-in-Bracket.new.self c.in-Bracket.ensures low c.advance-in-Bracket.ensures.goes
-          ∙ c.in_err-disjunction.ensures.value (p.here ∷ p.outer) more);
+          ∙ c.in_err-disjunction-in-Bracket.ensures.value (p.here ∷ p.outer) more);
     }
 
 pub term-returns-in-Close : goal.term-returns-in-Close
 term-returns-in-Close t c =
-    let g = bracket_grown c.disjunction.new.out c.push-in-Close.new.self c.push-in-Close.ensures.used _ c.disjunction.new.self c.advance-in-Close.new.self c.args.depth (omega (arith, c.if-depth-eq0-2.false)) c.in_ok-disjunction.ensures.grown c.advance-in-Close.ensures.on c.push-in-Close.ensures.trees in
+    let g = bracket_grown c.disjunction.new.out c.push-in-Close.new.self c.push-in-Close.ensures.used _ c.disjunction.new.self c.advance-in-Close.new.self c.args.depth (omega (arith, c.if-depth-eq0-2.false)) c.in_ok-disjunction-in-Bracket.ensures.grown c.advance-in-Close.ensures.on c.push-in-Close.ensures.trees in
     record {
       on = two _ _ _ (two _ _ _ c.advance-in-Bracket.ensures.on c.disjunction.ensures.on) c.advance-in-Close.ensures.on;
       grown = g.0;
@@ -149,7 +149,7 @@ term-returns-in-Close t c =
           let low : deep p < 8 = omega (arith, d, c.if-depth-eq0-2.false) in
           let more : deep (inside p) + (c.args.depth - 1) ≡ 8 = omega (arith, d, c.if-depth-eq0-2.false) in
           enters (looks c.args.names.now) c.args.self.now p c.advance-in-Bracket.new.self c.in-Bracket.ensures low c.advance-in-Bracket.ensures.goes
-          ∙ c.in_ok-disjunction.ensures.value (p.here ∷ p.outer) more
+          ∙ c.in_ok-disjunction-in-Bracket.ensures.value (p.here ∷ p.outer) more
           ∙ closes (looks c.args.names.now) c.disjunction.new.self None (tree c.disjunction.new.out) p.outer c.advance-in-Close.new.self p.here c.in-Close.ensures c.advance-in-Close.ensures.goes
           ∙ ap (λ u. rest (looks c.args.names.now) c.advance-in-Close.new.self (settled p u)) (sym g.1);
     }
@@ -162,28 +162,28 @@ term-returns-in_default t c = record {
       let low : deep p < 8 = omega (arith, d, c.if-depth-eq0-2.false) in
       let more : deep (inside p) + (c.args.depth - 1) ≡ 8 = omega (arith, d, c.if-depth-eq0-2.false) in
       enters (looks c.args.names.now) c.args.self.now p c.advance-in-Bracket.new.self c.in-Bracket.ensures low c.advance-in-Bracket.ensures.goes
-      ∙ c.in_ok-disjunction.ensures.value (p.here ∷ p.outer) more
-      ∙ not_closed (looks c.args.names.now) c.disjunction.new.self None (tree c.disjunction.new.out) p.outer p.here _ c.in_ok-disjunction.ensures.ends.0 c.in_ok-disjunction.ensures.ends.1 (λ h. c.in_default.not-Close (c.joining.ensures ∙ h)) c.form.ensures;
+      ∙ c.in_ok-disjunction-in-Bracket.ensures.value (p.here ∷ p.outer) more
+      ∙ not_closed (looks c.args.names.now) c.disjunction.new.self None (tree c.disjunction.new.out) p.outer p.here _ c.in_ok-disjunction-in-Bracket.ensures.ends.0 c.in_ok-disjunction-in-Bracket.ensures.ends.1 (λ h. c.in_default.not-Close (c.joining.ensures ∙ h)) c.form.ensures;
 }
 
-pub term-returns-in_err-found : goal.term-returns-in_err-found
-term-returns-in_err-found t c =
-    let y = err_from_is_err_and c.from-residual-in_err-found.result c.from-residual-in_err-found.ensures.1 in
+pub term-returns-in_err-found-in-Plain : goal.term-returns-in_err-found-in-Plain
+term-returns-in_err-found-in-Plain t c =
+    let y = err_from_is_err_and c.from_residual-in_err-found-in-Plain.result c.from_residual-in_err-found-in-Plain.ensures.1 in
     record {
       on = c.comparison.ensures.on;
-      grown = IfOk-from_err c.from-residual-in_err-found.result _ c.from-residual-in_err-found.ensures.0;
+      grown = IfOk-from_err c.from_residual-in_err-found-in-Plain.result _ c.from_residual-in_err-found-in-Plain.ensures.0;
       value = λ p d. fails _ _ _ (λ _. settled p (tree c.args.out.now)) _ _ _ y.1 y.2
-          (plainly (looks c.args.names.now) c.args.self.now p c.in-Plain.ensures ∙ c.in_err-found.ensures.value p);
+          (plainly (looks c.args.names.now) c.args.self.now p c.in-Plain.ensures ∙ c.in_err-found-in-Plain.ensures.value p);
     }
 
-pub term-returns-in_ok-found : goal.term-returns-in_ok-found
-term-returns-in_ok-found t c =
-    let g = leaf_grown c.args.out.now c.push-in-Plain.new.self c.push-in-Plain.ensures.used c.args.self.now c.comparison.new.self c.args.depth c.in_ok-found.found c.requires c.in_ok-found.ensures.counts.0 c.in_ok-found.ensures.counts.1 c.push-in-Plain.ensures.trees in
+pub term-returns-in_ok-found-in-Plain : goal.term-returns-in_ok-found-in-Plain
+term-returns-in_ok-found-in-Plain t c =
+    let g = leaf_grown c.args.out.now c.push-in-Plain.new.self c.push-in-Plain.ensures.used c.args.self.now c.comparison.new.self c.args.depth c.in_ok-found-in-Plain.found c.requires c.in_ok-found-in-Plain.ensures.counts.0 c.in_ok-found-in-Plain.ensures.counts.1 c.push-in-Plain.ensures.trees in
     record {
       on = c.comparison.ensures.on;
       grown = g.0;
       value = λ p d.
           plainly (looks c.args.names.now) c.args.self.now p c.in-Plain.ensures
-          ∙ c.in_ok-found.ensures.value p
+          ∙ c.in_ok-found-in-Plain.ensures.value p
           ∙ ap (λ u. rest (looks c.args.names.now) c.comparison.new.self (settled p u)) (sym g.1);
     }

@@ -30,10 +30,10 @@ returns-then-not-may_compare c = record {
 
 pub returns-in_err-left : goal.returns-in_err-left
 returns-in_err-left c =
-    let y = err_from_is_err_and c.from-residual.result c.from-residual.ensures.1 in
+    let y = err_from_is_err_and c.from_residual.result c.from_residual.ensures.1 in
     record {
       on = (counting c.args.self.now _ _ c.operand.ensures.on refl refl (ltb-true _ 16 (sym c.if-not-may_compare.ensures))).0;
-      counts = IfOk-from_err c.from-residual.result _ c.from-residual.ensures.0;
+      counts = IfOk-from_err c.from_residual.result _ c.from_residual.ensures.0;
       value = λ p. fails _ _ _ (λ k. settled p (compare k)) _ _ _ y.1 y.2
           (counted_on (looks c.args.names.now) c.args.self.now p c.found-found.result (c.found-found.ensures.value ∙ ap (found _) c.peek.ensures.seen) _ (not_bad _ c.in_default.not-NoOperand c.in_default-found.not-Unknown) c.if-not-may_compare.ensures refl refl
           ∙ c.in_err-left.ensures.value p left);
@@ -51,10 +51,10 @@ returns-in_default-peek c = record {
 
 pub returns-in_err-right : goal.returns-in_err-right
 returns-in_err-right c =
-    let y = err_from_is_err_and c.from-residual-in_err-right.result c.from-residual-in_err-right.ensures.1 in
+    let y = err_from_is_err_and c.from_residual-in_err-right.result c.from_residual-in_err-right.ensures.1 in
     record {
       on = (counting c.args.self.now _ _ (two _ _ _ c.operand.ensures.on (two _ _ _ c.advance.ensures.on c.operand-2.ensures.on)) refl refl (ltb-true _ 16 (sym c.if-not-may_compare.ensures))).0;
-      counts = IfOk-from_err c.from-residual-in_err-right.result _ c.from-residual-in_err-right.ensures.0;
+      counts = IfOk-from_err c.from_residual-in_err-right.result _ c.from_residual-in_err-right.ensures.0;
       value = λ p. fails _ _ _ (λ k. settled p (compare k)) _ _ _ y.1 y.2
           (counted_on (looks c.args.names.now) c.args.self.now p c.found-found.result (c.found-found.ensures.value ∙ ap (found _) c.peek.ensures.seen) _ (not_bad _ c.in_default.not-NoOperand c.in_default-found.not-Unknown) c.if-not-may_compare.ensures refl refl
           ∙ c.in_ok-left.ensures.value p left

@@ -8,10 +8,10 @@ use Rattle.conditions.proofs.reader.Reader.condition.Goals as goal
 
 pub returns-in_err-disjunction : goal.returns-in_err-disjunction
 returns-in_err-disjunction c =
-    let y = err_from_is_err_and c.from-residual.result c.from-residual.ensures.1 in
+    let y = err_from_is_err_and c.from_residual.result c.from_residual.ensures.1 in
     record {
       value = ap (λ x. outcome x c.disjunction.new.self) (y.1 ∙ ap Err y.2) ∙ sym (c.in_err-disjunction.ensures.value [] (omega (arith, c.levels.ensures)));
-      one = IfOk-from_err c.from-residual.result _ c.from-residual.ensures.0;
+      one = IfOk-from_err c.from_residual.result _ c.from_residual.ensures.0;
     }
 
 pub returns-in-End : goal.returns-in-End

@@ -25,24 +25,24 @@ returns-then-not-note c = record {
   value = λ p side. row_refused (looks c.args.names.now) c.args.self.now p side c.note.new.self c.in-RowField.field _ (c.in-RowField.ensures.value ∙ ap (found _) c.peek.ensures.seen) c.if-not-note.ensures.value c.note.ensures.stays c.limit.ensures;
 }
 
-pub returns-in_err-by : goal.returns-in_err-by
-returns-in_err-by c =
-    let y = err_from_is_err_and c.from-residual.result c.from-residual.ensures.1 in
+pub returns-in_err-by-in-RowField : goal.returns-in_err-by-in-RowField
+returns-in_err-by-in-RowField c =
+    let y = err_from_is_err_and c.from_residual.result c.from_residual.ensures.1 in
     record {
       on = two _ _ _ (two _ _ _ c.note.ensures.on c.advance-in-RowField.ensures.on) c.shift.ensures.on;
       value = λ p side. fails _ _ _ (arrived p side) _ _ _ y.1 y.2
           (row_begins (looks c.args.names.now) c.args.self.now p side c.note.new.self c.advance-in-RowField.new.self c.in-RowField.field (c.in-RowField.ensures.value ∙ ap (found _) c.peek.ensures.seen) (c.note.ensures.seen c.if-not-note.false) c.note.ensures.stays c.advance-in-RowField.ensures.goes
-          ∙ c.in_err-by.ensures.value _ p side (Row c.in-RowField.field));
+          ∙ c.in_err-by-in-RowField.ensures.value _ p side (Row c.in-RowField.field));
     }
 
-pub returns-in_err-by-2 : goal.returns-in_err-by-2
-returns-in_err-by-2 c =
-    let y = err_from_is_err_and c.from-residual-in_err-by-2.result c.from-residual-in_err-by-2.ensures.1 in
+pub returns-in_err-by-in-BaseField : goal.returns-in_err-by-in-BaseField
+returns-in_err-by-in-BaseField c =
+    let y = err_from_is_err_and c.from_residual-in_err-by-in-BaseField.result c.from_residual-in_err-by-in-BaseField.ensures.1 in
     record {
       on = two _ _ _ c.advance-in-BaseField.ensures.on c.shift-in-BaseField.ensures.on;
       value = λ p side. fails _ _ _ (arrived p side) _ _ _ y.1 y.2
           (base_begins (looks c.args.names.now) c.args.self.now p side c.advance-in-BaseField.new.self c.in-BaseField.field (c.in-BaseField.ensures.value ∙ ap (found _) c.peek.ensures.seen) c.advance-in-BaseField.ensures.goes
-          ∙ c.in_err-by-2.ensures.value _ p side (Base c.in-BaseField.field));
+          ∙ c.in_err-by-in-BaseField.ensures.value _ p side (Base c.in-BaseField.field));
     }
 
 pub returns-in-Value : goal.returns-in-Value
@@ -56,18 +56,18 @@ returns-in-Value c =
           ∙ ap (λ z. rest (looks c.args.names.now) c.advance.new.self (arrived p side (Number z))) back;
     }
 
-pub returns-in_ok-by : goal.returns-in_ok-by
-returns-in_ok-by c = record {
+pub returns-in_ok-by-in-RowField : goal.returns-in_ok-by-in-RowField
+returns-in_ok-by-in-RowField c = record {
   on = two _ _ _ (two _ _ _ c.note.ensures.on c.advance-in-RowField.ensures.on) c.shift.ensures.on;
   value = λ p side.
       row_begins (looks c.args.names.now) c.args.self.now p side c.note.new.self c.advance-in-RowField.new.self c.in-RowField.field (c.in-RowField.ensures.value ∙ ap (found _) c.peek.ensures.seen) (c.note.ensures.seen c.if-not-note.false) c.note.ensures.stays c.advance-in-RowField.ensures.goes
-      ∙ c.in_ok-by.ensures.value _ p side (Row c.in-RowField.field);
+      ∙ c.in_ok-by-in-RowField.ensures.value _ p side (Row c.in-RowField.field);
 }
 
-pub returns-in_ok-by-2 : goal.returns-in_ok-by-2
-returns-in_ok-by-2 c = record {
+pub returns-in_ok-by-in-BaseField : goal.returns-in_ok-by-in-BaseField
+returns-in_ok-by-in-BaseField c = record {
   on = two _ _ _ c.advance-in-BaseField.ensures.on c.shift-in-BaseField.ensures.on;
   value = λ p side.
       base_begins (looks c.args.names.now) c.args.self.now p side c.advance-in-BaseField.new.self c.in-BaseField.field (c.in-BaseField.ensures.value ∙ ap (found _) c.peek.ensures.seen) c.advance-in-BaseField.ensures.goes
-      ∙ c.in_ok-by-2.ensures.value _ p side (Base c.in-BaseField.field);
+      ∙ c.in_ok-by-in-BaseField.ensures.value _ p side (Base c.in-BaseField.field);
 }
