@@ -4,7 +4,7 @@
 usage: python3 tools/snake_names.py        at the top of the repository, once, after port.py
 
 Definitions, lemmas, fields and constructors of specs/ and proofs/ with a dash in their name go to snake case
-(`row-width` to `row_width`), types to camel case (`Refused-at` to `RefusedAt`). Names that Rattle makes (goals,
+(`row-width` to `row_width`), and so do the names that a `ghost use` gives them, types to camel case (`Refused-at` to `RefusedAt`). Names that Rattle makes (goals,
 steps of a proof) and names of src/ stay as they are. Files under must-fail/ are turned where they cite a name.
 Prints each name, and refuses to write where two names would fall together in one crate.
 """
@@ -15,9 +15,10 @@ import sys
 
 NAME = r"[A-Za-z0-9_'\u2080-\u209cα-ωΑ-Ω\u2115\u2124-]+"
 TOKEN = re.compile(r"(?<![A-Za-z0-9_'α-ωΑ-Ωℕℤ◌-])" + r"[A-Za-zα-ω][A-Za-z0-9_'α-ωΑ-Ωℕℤ₀-₉-]*")
+ALIAS = re.compile(r" as ([a-z]+(?:-[a-z]+)+)[,}]")
 DECLARED = re.compile(
     r"(?m)^[ ]*(?P<words>(?:(?:abbrev|pub|unfoldable|data|record|opaque|constructor|\|)\s+)*)"
-    r"(?P<name>" + NAME + r")\s*(?:\([^()]*(?:\([^()]*\)[^()]*)*\)\s*|\{[^}]*\}\s*)*:(?!:)\s*(?P<type>[^\n]*(?:\n[ ]+[^\n]*)*)")
+    r"(?P<name>" + NAME + r")\s*(?:\([^()]*(?:\([^()]*\)[^()]*)*\)\s*|\{[^}]*\}\s*)*:(?!:)\s*(?=(?P<type>[^\n]*(?:\n[ ]+[^\n]*)*))")
 
 
 def sources():
@@ -39,6 +40,9 @@ def declared():
             names.setdefault(name, set()).add(p)
             if name[0].isupper() and is_type(m["words"], kind):
                 types.add(name)
+    for p in glob.glob("crates/*/src/**/*.rt", recursive=True):
+        for name in ALIAS.findall(open(p, encoding="utf-8").read()):
+            names.setdefault(name, set()).add(p)
     return names, types
 
 

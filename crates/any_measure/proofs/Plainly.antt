@@ -118,14 +118,14 @@ one_of_max a b = elim (lt_z b a) as (λ t. (cond t a b ≡ a) ⊎ (cond t a b �
 
 least_is : (v : ℤ) (vs : List ℤ) → IsLeast (v ∷ vs) (least_of v vs)
 least_is v vs = record {
-  in-it = picked_is_there int_min ◌≤ℤ◌ one_of_min (λ a b. omega (arith, ints, clamps)) (λ a b. omega (arith, ints, clamps)) (λ a b c p q. omega (arith, ints)) v vs;
-  none-smaller = picked_before_all int_min ◌≤ℤ◌ one_of_min (λ a b. omega (arith, ints, clamps)) (λ a b. omega (arith, ints, clamps)) (λ a b c p q. omega (arith, ints)) v vs;
+  in_it = picked_is_there int_min ◌≤ℤ◌ one_of_min (λ a b. omega (arith, ints, clamps)) (λ a b. omega (arith, ints, clamps)) (λ a b c p q. omega (arith, ints)) v vs;
+  none_smaller = picked_before_all int_min ◌≤ℤ◌ one_of_min (λ a b. omega (arith, ints, clamps)) (λ a b. omega (arith, ints, clamps)) (λ a b c p q. omega (arith, ints)) v vs;
 }
 
 greatest_is : (v : ℤ) (vs : List ℤ) → IsGreatest (v ∷ vs) (greatest_of v vs)
 greatest_is v vs = record {
-  in-it = picked_is_there int_max (λ a b. b ≤ℤ a) one_of_max (λ a b. omega (arith, ints, clamps)) (λ a b. omega (arith, ints, clamps)) (λ a b c p q. omega (arith, ints)) v vs;
-  none-larger = picked_before_all int_max (λ a b. b ≤ℤ a) one_of_max (λ a b. omega (arith, ints, clamps)) (λ a b. omega (arith, ints, clamps)) (λ a b c p q. omega (arith, ints)) v vs;
+  in_it = picked_is_there int_max (λ a b. b ≤ℤ a) one_of_max (λ a b. omega (arith, ints, clamps)) (λ a b. omega (arith, ints, clamps)) (λ a b c p q. omega (arith, ints)) v vs;
+  none_larger = picked_before_all int_max (λ a b. b ≤ℤ a) one_of_max (λ a b. omega (arith, ints, clamps)) (λ a b. omega (arith, ints, clamps)) (λ a b c p q. omega (arith, ints)) v vs;
 }
 
 -- each kind by itself
@@ -178,16 +178,16 @@ chosen_plain Means = lifted_plain Total total_in NoRows (λ _. refl) mean (plain
 
 pub five_kinds : FiveKinds
 five_kinds = record {
-  count-is-plain = count_plain;
-  sum-is-plain = sum_plain;
-  least-is-plain = least_plain;
-  greatest-is-plain = greatest_plain;
-  mean-is-plain = mean_plain;
-  chosen-is-plain = chosen_plain;
-  least-is-least = least_is;
-  greatest-is-greatest = greatest_is;
-  count-never-wraps = λ a b n fa fb h p. let e = eqb-true (counted a b) n p in grind (arith, nat_tests);
-  sum-never-wraps = λ a b n fa fb h p. let e = leb-true (nat_abs (total a b)) (greatest_value * n) p in grind (arith, ints, nat_tests);
+  count_is_plain = count_plain;
+  sum_is_plain = sum_plain;
+  least_is_plain = least_plain;
+  greatest_is_plain = greatest_plain;
+  mean_is_plain = mean_plain;
+  chosen_is_plain = chosen_plain;
+  least_is_least = least_is;
+  greatest_is_greatest = greatest_is;
+  count_never_wraps = λ a b n fa fb h p. let e = eqb-true (counted a b) n p in grind (arith, nat_tests);
+  sum_never_wraps = λ a b n fa fb h p. let e = leb-true (nat_abs (total a b)) (greatest_value * n) p in grind (arith, ints, nat_tests);
 }
 
 -- a list that is joined from its first value on is one grouping of it

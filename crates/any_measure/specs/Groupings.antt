@@ -37,13 +37,13 @@ AnswersPlainly m aggregate = (g : Grouping) → All RowValue (values g) → leng
 -- is picked at run time; least and greatest are what they should be; and a join that cannot hold its
 -- sum never passes for one of at most 1,000,000 rows.
 pub record FiveKinds : Type 0 where
-  pub count-is-plain : AnswersPlainly count (plain Counts)
-  pub sum-is-plain : AnswersPlainly sum (plain Sums)
-  pub least-is-plain : AnswersPlainly least (plain Leasts)
-  pub greatest-is-plain : AnswersPlainly greatest (plain Greatests)
-  pub mean-is-plain : AnswersPlainly mean (plain Means)
-  pub chosen-is-plain : (k : AnyMeasure) → AnswersPlainly (chosen k) (plain k)
-  pub least-is-least : (v : ℤ) (vs : List ℤ) → IsLeast (v ∷ vs) (least_of v vs)
-  pub greatest-is-greatest : (v : ℤ) (vs : List ℤ) → IsGreatest (v ∷ vs) (greatest_of v vs)
-  pub count-never-wraps : (a b n : ℕ) → a < 2 ^ 32 → b < 2 ^ 32 → n ≤ most_rows → Possible count (counted a b) n → counted a b ≡ a + b
-  pub sum-never-wraps : (a b : ℤ) (n : ℕ) → FitsSigned w64 a → FitsSigned w64 b → n ≤ most_rows → Possible sum (total a b) n → total a b ≡ a +ℤ b
+  pub count_is_plain : AnswersPlainly count (plain Counts)
+  pub sum_is_plain : AnswersPlainly sum (plain Sums)
+  pub least_is_plain : AnswersPlainly least (plain Leasts)
+  pub greatest_is_plain : AnswersPlainly greatest (plain Greatests)
+  pub mean_is_plain : AnswersPlainly mean (plain Means)
+  pub chosen_is_plain : (k : AnyMeasure) → AnswersPlainly (chosen k) (plain k)
+  pub least_is_least : (v : ℤ) (vs : List ℤ) → IsLeast (v ∷ vs) (least_of v vs)
+  pub greatest_is_greatest : (v : ℤ) (vs : List ℤ) → IsGreatest (v ∷ vs) (greatest_of v vs)
+  pub count_never_wraps : (a b n : ℕ) → a < 2 ^ 32 → b < 2 ^ 32 → n ≤ most_rows → Possible count (counted a b) n → counted a b ≡ a + b
+  pub sum_never_wraps : (a b : ℤ) (n : ℕ) → FitsSigned w64 a → FitsSigned w64 b → n ≤ most_rows → Possible sum (total a b) n → total a b ≡ a +ℤ b

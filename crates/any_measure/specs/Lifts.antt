@@ -37,7 +37,7 @@ module _ {V W A : Type 0} (wrap : V → W) (own : W → Option V) (blank : A) (o
   none_joins a = rw (owns m.none) (at (own a) refl) where
     at : (o : Option V) → own a ≡ o → joined_within m.join wrap a (Some m.none) o ≡ a
     at None e = refl
-    at (Some x) e = ap wrap (laws.none-joins-to-the-same x) ∙ sym (wraps a x e)
+    at (Some x) e = ap wrap (laws.none_joins_to_the_same x) ∙ sym (wraps a x e)
 
   read_was : (o : Option V) (x : V) → option_map wrap o ≡ Some (wrap x) → o ≡ Some x
   read_was None x p = let z : ◌≡◌ {A = ℕ} 0 1 = cc in absurd (omega arith)
@@ -47,25 +47,25 @@ module _ {V W A : Type 0} (wrap : V → W) (own : W → Option V) (blank : A) (o
 
   pub lifted_keeps : Properties (lifted wrap own blank m)
   lifted_keeps = record {
-    join-associates = λ a b c i j k p q r s. let (x, ex, px) = unwrapped a i p in let (y, ey, py) = unwrapped b j q in let (z, ez, pz) = unwrapped c k r in
-        rw (ex, ey, ez) (associates_wrap x y z (laws.join-associates x y z i j k px py pz s));
-    join-commutes = λ a b i j p q r. let (x, ex, px) = unwrapped a i p in let (y, ey, py) = unwrapped b j q in
-        rw (ex, ey) (commutes_wrap x y (laws.join-commutes x y i j px py r));
-    none-joins-to-the-same = none_joins;
-    none-for-no-rows = possible_wrap m.none 0 ∙ laws.none-for-no-rows;
-    only-none-for-no-rows = λ a p. let (x, ex, px) = unwrapped a 0 p in ex ∙ ap wrap (laws.only-none-for-no-rows x px);
-    one-row-is-possible = λ vs e p. possible_wrap (m.one vs) 1 ∙ laws.one-row-is-possible vs e p;
-    join-is-possible = λ a b i j p q r. let (x, ex, px) = unwrapped a i p in let (y, ey, py) = unwrapped b j q in
-        rw (ex, ey) (possible_join_wrap x y (i + j) (laws.join-is-possible x y i j px py r));
-    written-reads-back = λ a w. let (x, ex, px) = unwrapped a w.0 w.3 in
-        rw ex (ap (λ bs. option_map wrap (m.reads bs)) (written_wrap x) ∙ ap (option_map wrap) (laws.written-reads-back x (w.0, w.1, w.2, px)));
-    nothing-else-reads-so = λ a bs w e p. let (x, ex, px) = unwrapped a w.0 w.3 in
-        rw ex (laws.nothing-else-reads-so x bs (w.0, w.1, w.2, px) e (read_was (m.reads bs) x (p ∙ ap Some ex)) ∙ sym (written_wrap x));
+    join_associates = λ a b c i j k p q r s. let (x, ex, px) = unwrapped a i p in let (y, ey, py) = unwrapped b j q in let (z, ez, pz) = unwrapped c k r in
+        rw (ex, ey, ez) (associates_wrap x y z (laws.join_associates x y z i j k px py pz s));
+    join_commutes = λ a b i j p q r. let (x, ex, px) = unwrapped a i p in let (y, ey, py) = unwrapped b j q in
+        rw (ex, ey) (commutes_wrap x y (laws.join_commutes x y i j px py r));
+    none_joins_to_the_same = none_joins;
+    none_for_no_rows = possible_wrap m.none 0 ∙ laws.none_for_no_rows;
+    only_none_for_no_rows = λ a p. let (x, ex, px) = unwrapped a 0 p in ex ∙ ap wrap (laws.only_none_for_no_rows x px);
+    one_row_is_possible = λ vs e p. possible_wrap (m.one vs) 1 ∙ laws.one_row_is_possible vs e p;
+    join_is_possible = λ a b i j p q r. let (x, ex, px) = unwrapped a i p in let (y, ey, py) = unwrapped b j q in
+        rw (ex, ey) (possible_join_wrap x y (i + j) (laws.join_is_possible x y i j px py r));
+    written_reads_back = λ a w. let (x, ex, px) = unwrapped a w.0 w.3 in
+        rw ex (ap (λ bs. option_map wrap (m.reads bs)) (written_wrap x) ∙ ap (option_map wrap) (laws.written_reads_back x (w.0, w.1, w.2, px)));
+    nothing_else_reads_so = λ a bs w e p. let (x, ex, px) = unwrapped a w.0 w.3 in
+        rw ex (laws.nothing_else_reads_so x bs (w.0, w.1, w.2, px) e (read_was (m.reads bs) x (p ∙ ap Some ex)) ∙ sym (written_wrap x));
   }
 
 -- what a lifted measure writes is eight bytes too
 pub lifted_formed : {V W A : Type 0} (wrap : V → W) (own : W → Option V) (blank : A) (m : Meaning V A) → Formed m → Formed (lifted wrap own blank m)
-lifted_formed {V} wrap own blank m f = record { kind-is-a-byte = f.kind-is-a-byte; written-in-eight-bytes = λ a. eight (own a) } where
+lifted_formed {V} wrap own blank m f = record { kind_is_a_byte = f.kind_is_a_byte; written_in_eight_bytes = λ a. eight (own a) } where
   eight : (o : Option V) → EightBytes (written_within m.written o)
   eight None = bytes_of_eight 0
-  eight (Some x) = f.written-in-eight-bytes x
+  eight (Some x) = f.written_in_eight_bytes x

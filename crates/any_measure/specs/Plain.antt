@@ -42,10 +42,10 @@ plain_of_rows k vs = cond (are_measured_rows vs) (Some (plain k vs)) None
 
 -- m is the least of a list: it is in it, and nothing in it is smaller
 pub record IsLeast (vs : List ℤ) (m : ℤ) : Type 0 where
-  pub in-it : Has vs m
-  pub none-smaller : All (λ v. m ≤ℤ v) vs
+  pub in_it : Has vs m
+  pub none_smaller : All (λ v. m ≤ℤ v) vs
 
 -- m is the greatest of a list: it is in it, and nothing in it is larger
 pub record IsGreatest (vs : List ℤ) (m : ℤ) : Type 0 where
-  pub in-it : Has vs m
-  pub none-larger : All (λ v. v ≤ℤ m) vs
+  pub in_it : Has vs m
+  pub none_larger : All (λ v. v ≤ℤ m) vs

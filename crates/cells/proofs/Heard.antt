@@ -83,13 +83,13 @@ module _ {V A : Type 0} (ms : ℕ → Meaning V A) where
 
 module _ {V A : Type 0} (m : Meaning V A) (laws : Properties m) where
   join_possible : (ys : List (Cell V)) → All (λ y. (1 ≤ y.rows) × Possible m y.value y.rows) ys → rows_of ys ≤ most_rows → Possible m (join_of m ys) (rows_of ys)
-  join_possible [] h le = laws.none-for-no-rows
-  join_possible (y ∷ ys) h le = laws.join-is-possible y.value (join_of m ys) y.rows (rows_of ys) h.0.1 (join_possible ys h.1 (omega arith)) le
+  join_possible [] h le = laws.none_for_no_rows
+  join_possible (y ∷ ys) h le = laws.join_is_possible y.value (join_of m ys) y.rows (rows_of ys) h.0.1 (join_possible ys h.1 (omega arith)) le
 
   -- one contribution more
   added_total : (p : GroupId) (x : Cell V) (ys : List (Cell V)) → x.id ≡ p → Possible m x.value x.rows → x.rows + rows_of ys ≤ most_rows → Some (added m.join x (total m p ys)) ≡ total m p (x ∷ ys)
   added_total p x [] e q le =
-      let none : x.value ≡ m.join x.value m.none = sym (laws.none-joins-to-the-same x.value) ∙ laws.join-commutes m.none x.value 0 x.rows laws.none-for-no-rows q (omega arith) in
+      let none : x.value ≡ m.join x.value m.none = sym (laws.none_joins_to_the_same x.value) ∙ laws.join_commutes m.none x.value 0 x.rows laws.none_for_no_rows q (omega arith) in
       let rows : x.rows ≡ x.rows + 0 = omega arith in
       ap Some (λ i. record { id = e i; rows = rows i; value = none i })
   added_total p x (y ∷ ys) e q le =
@@ -102,9 +102,9 @@ module _ {V A : Type 0} (m : Meaning V A) (laws : Properties m) where
       let z = join_of m ys in
       let pz = join_possible ys h.1.1 (omega arith) in
       let value : m.join x.value (m.join y.value z) ≡ m.join y.value (m.join x.value z) =
-      sym (laws.join-associates x.value y.value z x.rows y.rows (rows_of ys) h.0.1 h.1.0.1 pz (omega arith))
-      ∙ ap (λ w. m.join w z) (laws.join-commutes x.value y.value x.rows y.rows h.0.1 h.1.0.1 (omega arith))
-      ∙ laws.join-associates y.value x.value z y.rows x.rows (rows_of ys) h.1.0.1 h.0.1 pz (omega arith) in
+      sym (laws.join_associates x.value y.value z x.rows y.rows (rows_of ys) h.0.1 h.1.0.1 pz (omega arith))
+      ∙ ap (λ w. m.join w z) (laws.join_commutes x.value y.value x.rows y.rows h.0.1 h.1.0.1 (omega arith))
+      ∙ laws.join_associates y.value x.value z y.rows x.rows (rows_of ys) h.1.0.1 h.0.1 pz (omega arith) in
       let rows : rows_of (x ∷ y ∷ ys) ≡ rows_of (y ∷ x ∷ ys) = omega arith in
       ap Some (λ i. record { id = p; rows = rows i; value = value i })
 
@@ -198,7 +198,7 @@ module _ {V A : Type 0} (ms : ℕ → Meaning V A) (laws : (k : ℕ) → Propert
   law = record {
     sorted = sorted_heard ms;
     totals = totals;
-    order-is-free = λ xs ys f r. any_order r f;
+    order_is_free = λ xs ys f r. any_order r f;
     possible = proper_heard;
   }
 

@@ -24,11 +24,11 @@ module _ {V : Type 0} where
   pub sorted_at : (l : List (Cell V)) → Sorted l → (k : ℕ) (d : Cell V) → k < length l → lookup (get_or l k d).id l ≡ Some (get_or l k d)
   sorted_at [] s k d h = absurd (omega arith)
   sorted_at (c ∷ cs) s zero d h = look_head c.id c cs Equal (itself c.id)
-  sorted_at (c ∷ cs) s (suc k) d h = look_head (get_or cs k d).id c cs Greater (less_greater c.id (get_or cs k d).id (all-at cs k (omega arith) s.0)) ∙ sorted_at cs s.1 k d (omega arith) where
-    all-at : (ds : List (Cell V)) (k : ℕ) → k < length ds → All (λ e. order c.id e.id ≡ Less) ds → order c.id (get_or ds k d).id ≡ Less
-    all-at [] k h a = absurd (omega arith)
-    all-at (e ∷ ds) zero h a = a.0
-    all-at (e ∷ ds) (suc k) h a = all-at ds k (omega arith) a.1
+  sorted_at (c ∷ cs) s (suc k) d h = look_head (get_or cs k d).id c cs Greater (less_greater c.id (get_or cs k d).id (all_at cs k (omega arith) s.0)) ∙ sorted_at cs s.1 k d (omega arith) where
+    all_at : (ds : List (Cell V)) (k : ℕ) → k < length ds → All (λ e. order c.id e.id ≡ Less) ds → order c.id (get_or ds k d).id ≡ Less
+    all_at [] k h a = absurd (omega arith)
+    all_at (e ∷ ds) zero h a = a.0
+    all_at (e ∷ ds) (suc k) h a = all_at ds k (omega arith) a.1
 
   pub lookup_none : (p : GroupId) (l : List (Cell V)) → Absent p l → lookup p l ≡ None
   lookup_none p [] out = refl

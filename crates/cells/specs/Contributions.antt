@@ -84,5 +84,5 @@ module _ {V A : Type 0} where
   pub record Law (ms : ℕ → Meaning V A) : Type 0 where
     pub sorted : (xs : List (Cell V)) → Sorted (heard ms xs)
     pub totals : (xs : List (Cell V)) → Fair ms xs → (p : GroupId) → lookup p (heard ms xs) ≡ total (ms p.column) p (came_for p xs)
-    pub order-is-free : (xs ys : List (Cell V)) → Fair ms xs → Reordered xs ys → heard ms xs ≡ heard ms ys
+    pub order_is_free : (xs ys : List (Cell V)) → Fair ms xs → Reordered xs ys → heard ms xs ≡ heard ms ys
     pub possible : (xs : List (Cell V)) → Fair ms xs → All (Proper ms) (heard ms xs)

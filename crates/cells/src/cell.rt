@@ -1,6 +1,6 @@
 // What a group holds.
 ghost use Rattle.std.specs.Prelude.{◌≡◌};
-ghost use Rattle.cells.specs.Groups.{grown as has-grown};
+ghost use Rattle.cells.specs.Groups.{grown as has_grown};
 
 use crate::id::GroupId;
 use measures::measure::Measure;
@@ -16,7 +16,7 @@ pub struct Cell<V> {
 // A group to which a contribution came: the contribution's value is joined in front. Row counts are
 // added; past 32 bits the count stays at their end.
 pub fn grown<M: Measure>(measure: &M, new: Cell<M::Value>, old: Cell<M::Value>) -> Cell<M::Value>
-    ensures { result ≡ has-grown (M.Measure.meaning measure.now).join new old }
+    ensures { result ≡ has_grown (M.Measure.meaning measure.now).join new old }
 {
     Cell {
         id: old.id,

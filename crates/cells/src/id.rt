@@ -1,8 +1,8 @@
 // Whose group a cell holds.
 ghost use Rattle.std.specs.Prelude.{◌≡◌, ◌<◌, ◌<ℤ◌, Decides, ◌==◌};
 ghost use Rattle.std.specs.Ordering.{MatchOrdering};
-ghost use Rattle.cells.specs.Order.{key_order, order as id-order};
-ghost use Rattle.cells.specs.Listed.{listed as is-listed};
+ghost use Rattle.cells.specs.Order.{key_order, order as id_order};
+ghost use Rattle.cells.specs.Listed.{listed as is_listed};
 ghost use Rattle.cells.specs.Hash.{stirred, hashed};
 
 use std::cmp::Ordering;
@@ -73,7 +73,7 @@ impl GroupId {
 
     // By column, then by key.
     pub fn order(&self, other: &GroupId) -> Ordering
-        ensures { result ≡ id-order self.now other.now }
+        ensures { result ≡ id_order self.now other.now }
     {
         match column_order(self, other) {
             Ordering::Less => Ordering::Less,
@@ -92,7 +92,7 @@ impl GroupId {
 
 // Whether an id is one of the ids.
 pub fn listed(id: &GroupId, ids: &[GroupId]) -> bool
-    ensures { result ≡ is-listed id.now ids.now }
+    ensures { result ≡ is_listed id.now ids.now }
 {
     for other in ids {
         if id.is(other) {

@@ -5,7 +5,7 @@ ghost use Rattle.std.specs.List.Sorted.{IsPermutation, IsSortedWithin};
 ghost use Rattle.std.specs.Cmp.{IsTotalOrder};
 ghost use Rattle.std.specs.Ordering.{is_lt};
 ghost use Rattle.cells.specs.Order.{order};
-ghost use Rattle.cells.specs.Places.{with_next as next-put, with_head as head-put, with_cell as cell-put};
+ghost use Rattle.cells.specs.Places.{with_next as next_put, with_head as head_put, with_cell as cell_put};
 ghost use Rattle.std.specs.Cmp.Rules.{comparing};
 ghost use Rattle.std.proofs.Common.{rules};
 ghost use Rattle.std.specs.Cmp as Keys;
@@ -37,7 +37,7 @@ impl<V: Copy> Place<V> {
 
     // The place with its cell linked to an older one.
     pub fn with_next(self, older: u32) -> Place<V>
-        ensures { result ≡ next-put self older }
+        ensures { result ≡ next_put self older }
     {
         Place {
             next: older,
@@ -47,7 +47,7 @@ impl<V: Copy> Place<V> {
 
     // The place with its bucket beginning at a link.
     pub fn with_head(self, newest: u32) -> Place<V>
-        ensures { result ≡ head-put self newest }
+        ensures { result ≡ head_put self newest }
     {
         Place {
             head: newest,
@@ -57,7 +57,7 @@ impl<V: Copy> Place<V> {
 
     // The place with another cell.
     pub fn with_cell(self, new: Cell<V>) -> Place<V>
-        ensures { result ≡ cell-put self new }
+        ensures { result ≡ cell_put self new }
     {
         Place { cell: new, ..self }
     }

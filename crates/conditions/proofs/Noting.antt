@@ -81,7 +81,7 @@ known e q cut i h = let z : ◌≡◌ {A = ℕ} 0 1 = cc in absurd (omega arith)
 -- a field is noted exactly when it is read
 record Told (f n : ℕ) (σ : Seen) : Type 0 where
   noted_read : get_or σ.fields f false ≡ true → 0 < n
-  read-noted : 0 < n → get_or σ.fields f false ≡ true
+  read_noted : 0 < n → get_or σ.fields f false ≡ true
   eight : length σ.fields ≡ 8
   few : σ.different ≤ 4
   marks : marked σ.fields ≡ σ.different
@@ -163,10 +163,10 @@ module _ (f : ℕ) where
           split : (i ≡ f) ⊎ (i ≡ f → ⊥) → Told f (at p + ws side + cond (eqb i f) 1 0) τ
           split (inl e) =
               let one : ◌≡◌ {A = ℕ} (cond (eqb i f) 1 0) 1 = cond-true (eqb i f) 1 0 (eq-eqb i f e) in
-              record { noted_read = λ _. omega (arith, one); read-noted = λ _. ap (λ j. get_or τ.fields j false) (sym e) ∙ h; eight = l; few = x; marks = y }
+              record { noted_read = λ _. omega (arith, one); read_noted = λ _. ap (λ j. get_or τ.fields j false) (sym e) ∙ h; eight = l; few = x; marks = y }
           split (inr n) =
               let none : ◌≡◌ {A = ℕ} (cond (eqb i f) 1 0) 0 = cond-false (eqb i f) 1 0 (ne_eqb i f n) in
-              record { noted_read = λ z. omega (arith, none, k.noted_read (sym (o n) ∙ z)); read-noted = λ z. o n ∙ k.read-noted (omega (arith, none, z)); eight = l; few = x; marks = y }
+              record { noted_read = λ z. omega (arith, none, k.noted_read (sym (o n) ∙ z)); read_noted = λ z. o n ∙ k.read_noted (omega (arith, none, z)); eight = l; few = x; marks = y }
 
       by_cases : (a b : Bool) → get_or σ.fields i false ≡ a → ltb σ.different 4 ≡ b → Moved (note (cond a (Some σ) (cond b (Some (record { comparisons = σ.comparisons; different = σ.different + 1; fields = set σ.fields i true })) None)) (field p side (Row i)))
       by_cases true b h m = (hit σ k.eight k.few k.marks h (λ _. refl), λ z. refl)
@@ -179,7 +179,7 @@ module _ (f : ℕ) where
   counted_kept σ p g q k = by_cases (ltb σ.comparisons 16)
     where
       by_cases : (b : Bool) → Moved (cond b (begin (record { comparisons = σ.comparisons + 1; different = σ.different; fields = σ.fields }) p left g) (stop limit))
-      by_cases true = begin_kept _ p left g q (record { noted_read = λ y. omega (arith, k.noted_read y); read-noted = λ y. k.read-noted (omega (arith, y)); eight = k.eight; few = k.few; marks = k.marks })
+      by_cases true = begin_kept _ p left g q (record { noted_read = λ y. omega (arith, k.noted_read y); read_noted = λ y. k.read_noted (omega (arith, y)); eight = k.eight; few = k.few; marks = k.marks })
       by_cases false = tt
 
   first_kept : (σ : Seen) (p : Place) (g : Found) → ((i : ℕ) → g ≡ RowField i → i < 8) → Told f (at p) σ → Moved (first σ p g)
@@ -287,10 +287,10 @@ none_yet (suc n) (suc f) = none_yet n f
 
 pub notes_fields : (e : Names) → ((w : List ℕ) (i : ℕ) → e w ≡ RowField i → i < 8) → (at : Spot) (xs : List Lexeme) (t : Tree) (σ : Seen) (at' : Spot) (ys : List Lexeme) → condition_of e at xs ≡ accepted t σ at' ys → (length σ.fields ≡ 8) × ((f : ℕ) → get_or σ.fields f false ≡ reads f t) × (marked σ.fields ≤ 4)
 unfolding condition_of
-notes_fields e q at xs t σ at' ys h = ((all 0).eight, λ f. told (get_or σ.fields f false) (times f t) (all f).noted_read (all f).read-noted ∙ all_times f t, omega (arith, (all 0).few, (all 0).marks))
+notes_fields e q at xs t σ at' ys h = ((all 0).eight, λ f. told (get_or σ.fields f false) (times f t) (all f).noted_read (all f).read_noted ∙ all_times f t, omega (arith, (all 0).few, (all 0).marks))
   where
     all : (f : ℕ) → Told f (times f t) σ
-    all f = subst (Ended f) h (run_kept f e q unread (term (opened None [])) at xs (record { noted_read = λ y. absurd (true≢false (sym y ∙ none_yet 8 f)); read-noted = λ y. absurd (omega (arith, y)); eight = refl; few = omega arith; marks = refl }, tt))
+    all f = subst (Ended f) h (run_kept f e q unread (term (opened None [])) at xs (record { noted_read = λ y. absurd (true≢false (sym y ∙ none_yet 8 f)); read_noted = λ y. absurd (omega (arith, y)); eight = refl; few = omega arith; marks = refl }, tt))
 
     told : (b : Bool) (n : ℕ) → (b ≡ true → 0 < n) → (0 < n → b ≡ true) → b ≡ ltb 0 n
     told true n p q = sym (lt-ltb 0 n (p refl))

@@ -1,7 +1,7 @@
 // Cells in order of arrival, found by hash chains that lie inside the places.
 ghost use Rattle.std.specs.Prelude.{◌≡◌, ℕ, ◌+◌, ◌^◌, ◌<◌, ◌≤◌, length, drop, slice_index_or, slice_set};
 ghost use Rattle.cells.specs.Groups.{in_order, Apart};
-ghost use Rattle.cells.specs.Groups.{grown as has-grown};
+ghost use Rattle.cells.specs.Groups.{grown as has_grown};
 ghost use Rattle.groups.specs.Chains.{bucket_of};
 ghost use Rattle.groups.specs.Chains.{cells_of, heads, nexts, live, Chained, Found, Putting};
 
@@ -121,7 +121,7 @@ fn append<V: Copy>(places: &mut [Place<V>], used: usize, cell: Cell<V>)
 // The cell at i, to whose group a contribution came.
 fn grow<M: Measure>(measure: &M, places: &mut [Place<M::Value>], i: usize, new: Cell<M::Value>)
     requires { i < length places.old }
-    ensures cells { cells_of places.new ≡ slice_set (cells_of places.old) i (has-grown (M.Measure.meaning measure.now).join new (slice_index_or (cells_of places.old) i new)) }
+    ensures cells { cells_of places.new ≡ slice_set (cells_of places.old) i (has_grown (M.Measure.meaning measure.now).join new (slice_index_or (cells_of places.old) i new)) }
     ensures chained { (used : ℕ) → Chained places.old used → Chained places.new used }
 {
     let old = places[i].cell;

@@ -31,7 +31,7 @@ module _ {M V A : Type 0} {meaning : M → Meaning V A} {found : ℕ → Option 
     good_head = (inv_head.only bs (h, body) (sym here)).0
 
     pub few_fields : h.fields ≤ 8
-    few_fields = good_head.fields-few
+    few_fields = good_head.fields_few
 
     pub few_rows : h.rows ≤ most_rows
     few_rows = good_head.rows_few

@@ -57,10 +57,10 @@ inv_rows left h =
 
 -- the head
 pub record GoodHead (h : Head) : Type 0 where
-  pub fields-some : 1 ≤ h.fields
-  pub fields-few : h.fields ≤ 8
-  pub columns-some : 1 ≤ h.columns
-  pub columns-few : h.columns ≤ 8
+  pub fields_some : 1 ≤ h.fields
+  pub fields_few : h.fields ≤ 8
+  pub columns_some : 1 ≤ h.columns
+  pub columns_few : h.columns ≤ 8
   pub rows_few : h.rows ≤ most_rows
 
 one_to_eight : (n : ℕ) → one_to 8 n ≡ true → (1 ≤ n) × (n ≤ 8)
@@ -75,12 +75,12 @@ inv_head =
     inv_via (λ q. record { fields = q.1.0; columns = q.1.1.0; rows = q.1.1.1 }) GoodHead (λ h. head_bytes h.fields h.columns h.rows)
     (inv_seq (inv_constant (mark ++ bytes_of 2 version)) (λ _ _. inv_seq (inv_if (one_to 8) inv_byte) (λ _ _. inv_seq (inv_if (one_to 8) (inv_number 1)) (λ _ _. inv_if (λ n. leb n most_rows) (inv_number 4)))))
     (λ h ok.
-    let s = ok.rows_few in let f = ok.fields-few in let c = ok.columns-few in
-    ((tt, (h.fields, (h.columns, h.rows))), (tt, ((omega arith, eight_or_less h.fields ok.fields-some f), ((omega arith, eight_or_less h.columns ok.columns-some c), (omega arith, le-leb h.rows most_rows s)))), refl, refl))
+    let s = ok.rows_few in let f = ok.fields_few in let c = ok.columns_few in
+    ((tt, (h.fields, (h.columns, h.rows))), (tt, ((omega arith, eight_or_less h.fields ok.fields_some f), ((omega arith, eight_or_less h.columns ok.columns_some c), (omega arith, le-leb h.rows most_rows s)))), refl, refl))
     (λ x ok.
     let f = one_to_eight x.1.0 ok.1.0.1 in
     let c = one_to_eight x.1.1.0 ok.1.1.0.1 in
-    (record { fields-some = f.0; fields-few = f.1; columns-some = c.0; columns-few = c.1; rows_few = leb-true x.1.1.1 most_rows ok.1.1.1.1 }, refl))
+    (record { fields_some = f.0; fields_few = f.1; columns_some = c.0; columns_few = c.1; rows_few = leb-true x.1.1.1 most_rows ok.1.1.1.1 }, refl))
 
 -- the measured byte
 
@@ -133,10 +133,10 @@ inv_value : {V A : Type 0} (m : Meaning V A) → Properties m → Formed m → (
 unfolding value
 inv_value m keeps formed n some few =
     inv_chosen (λ bs. if_possible m n (m.reads bs)) (λ v. Possible m v n) m.written (inv_times inv_byte 8)
-    (λ v ok. (m.written v, formed.written-in-eight-bytes v, ap (if_possible m n) (keeps.written-reads-back v (n, some, few, ok)) ∙ cond-true (m.possible v n) (Some v) None ok, singles (m.written v)))
+    (λ v ok. (m.written v, formed.written_in_eight_bytes v, ap (if_possible m n) (keeps.written_reads_back v (n, some, few, ok)) ∙ cond-true (m.possible v n) (Some v) None ok, singles (m.written v)))
     (λ bs v ok e.
     let c = was_possible m n (m.reads bs) v e in
-    (c.1, singles bs ∙ keeps.nothing-else-reads-so v bs (n, some, few, c.1) ok c.0))
+    (c.1, singles bs ∙ keeps.nothing_else_reads_so v bs (n, some, few, c.1) ok c.0))
 
 -- a mask below 2 to the fields is a byte, and has at most four bits
 pub good_mask : (fields : ℕ) → fields ≤ 8 → (m : ℕ) → mask_fits fields m ≡ true → (m < 256) × (ones m ≤ 4)
@@ -151,7 +151,7 @@ pub record Lawful {M V A : Type 0} (meaning : M → Meaning V A) (found : ℕ �
   pub keeps : (m : M) → Properties (meaning m)
   pub formed : (m : M) → Formed (meaning m)
   pub finds : (m : M) → found (meaning m).kind ≡ Some m
-  pub found-by : (b : ℕ) (m : M) → found b ≡ Some m → b ≡ (meaning m).kind
+  pub found_by : (b : ℕ) (m : M) → found b ≡ Some m → b ≡ (meaning m).kind
 
 module _ {M V A : Type 0} {meaning : M → Meaning V A} {found : ℕ → Option M} (laws : Lawful meaning found) where
   -- a group
@@ -201,8 +201,8 @@ module _ {M V A : Type 0} {meaning : M → Meaning V A} {found : ℕ → Option 
   inv_shape fields h =
       inv_via (λ q. record { measure = q.0; measured = q.1.0; mask = q.1.1 }) (GoodShape meaning fields) (shape_bytes meaning)
       (inv_seq (inv_chosen found (λ _. Unit {0}) (λ m. (meaning m).kind ∷ []) inv_byte
-      (λ m ok. ((meaning m).kind, (laws.formed m).kind-is-a-byte, laws.finds m, refl))
-      (λ b m ok e. (tt, ap (λ x. x ∷ []) (laws.found-by b m e))))
+      (λ m ok. ((meaning m).kind, (laws.formed m).kind_is_a_byte, laws.finds m, refl))
+      (λ b m ok e. (tt, ap (λ x. x ∷ []) (laws.found_by b m e))))
       (λ m _. inv_seq (inv_chosen (measured_of (meaning m).fields fields) (λ x. measured_fits (meaning m).fields fields x ≡ true) (λ x. measured_byte x ∷ []) inv_byte
       (λ x ok. (measured_byte x, measured_is_a_byte (meaning m).fields fields h x ok, measured_reads_back (meaning m).fields fields x ok, refl))
       (λ b x ok e. measured_only (meaning m).fields fields b x e))
@@ -225,7 +225,7 @@ module _ {M V A : Type 0} {meaning : M → Meaning V A} {found : ℕ → Option 
   -- the columns after a head
   pub inv_columns : (h : Head) → GoodHead h → Inverse (Many (GoodColumn meaning h.fields h.rows) h.columns) (columns_bytes meaning) (columns meaning found h)
   unfolding columns
-  inv_columns h ok = inv_times (inv_column h.fields h.rows ok.fields-few ok.rows_few) h.columns
+  inv_columns h ok = inv_times (inv_column h.fields h.rows ok.fields_few ok.rows_few) h.columns
 
   -- the whole file
   pub inv_file : Inverse (Good meaning) (file_bytes meaning) (file meaning found)
@@ -233,9 +233,9 @@ module _ {M V A : Type 0} {meaning : M → Meaning V A} {found : ℕ → Option 
   inv_file =
       inv_via (λ q. record { fields = q.0.fields; rows = q.0.rows; columns = q.1 }) (Good meaning) (file_bytes meaning)
       (inv_seq inv_head inv_columns)
-      (λ f ok. ((record { fields = f.fields; columns = length f.columns; rows = f.rows }, f.columns), (record { fields-some = ok.fields-some; fields-few = ok.fields-few; columns-some = ok.columns-some; columns-few = ok.columns-few; rows_few = ok.rows_few }, (refl, ok.each)), refl, refl))
-      (λ x ok. let e = ok.1.0 in let a = ok.0.columns-some in let b = ok.0.columns-few in (
-        record { fields-some = ok.0.fields-some; fields-few = ok.0.fields-few; columns-some = omega arith; columns-few = omega arith; rows_few = ok.0.rows_few; each = ok.1.1 },
+      (λ f ok. ((record { fields = f.fields; columns = length f.columns; rows = f.rows }, f.columns), (record { fields_some = ok.fields_some; fields_few = ok.fields_few; columns_some = ok.columns_some; columns_few = ok.columns_few; rows_few = ok.rows_few }, (refl, ok.each)), refl, refl))
+      (λ x ok. let e = ok.1.0 in let a = ok.0.columns_some in let b = ok.0.columns_few in (
+        record { fields_some = ok.0.fields_some; fields_few = ok.0.fields_few; columns_some = omega arith; columns_few = omega arith; rows_few = ok.0.rows_few; each = ok.1.1 },
         ap (λ n. head_bytes x.0.fields n x.0.rows ++ columns_bytes meaning x.1) (sym e),
       ))
 

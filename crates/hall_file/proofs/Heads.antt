@@ -44,18 +44,18 @@ pub record HeadAt (bs : List ℕ) : Type 0 where
   pub l : get_or bs 1 0 ≡ 76
   pub y : get_or bs 2 0 ≡ 89
   pub version : get_or bs 3 0 + get_or bs 4 0 * 256 ≡ 1
-  pub fields-some : 1 ≤ get_or bs 5 0
-  pub fields-few : get_or bs 5 0 ≤ 8
-  pub columns-some : 1 ≤ get_or bs 6 0
-  pub columns-few : get_or bs 6 0 ≤ 8
+  pub fields_some : 1 ≤ get_or bs 5 0
+  pub fields_few : get_or bs 5 0 ≤ 8
+  pub columns_some : 1 ≤ get_or bs 6 0
+  pub columns_few : get_or bs 6 0 ≤ 8
   pub rows_few : rows_at bs ≤ most_rows
 
 head_at : (bs : List ℕ) (h : Head) (rest : List ℕ) → GoodHead h → bs ≡ head_bytes h.fields h.columns h.rows ++ rest → HeadAt bs
 head_at bs h rest ok e =
     let a = ok.rows_few in
-    let b = ok.columns-some in
-    let d = ok.columns-few in
-    subst HeadAt (sym e) (record { long = omega arith; t = refl; l = refl; y = refl; version = refl; fields-some = ok.fields-some; fields-few = ok.fields-few; columns-some = omega arith; columns-few = omega arith; rows_few = omega arith })
+    let b = ok.columns_some in
+    let d = ok.columns_few in
+    subst HeadAt (sym e) (record { long = omega arith; t = refl; l = refl; y = refl; version = refl; fields_some = ok.fields_some; fields_few = ok.fields_few; columns_some = omega arith; columns_few = omega arith; rows_few = omega arith })
 
 -- there is no head where a test fails
 pub head_no : (bs : List ℕ) → (HeadAt bs → ⊥) → None ≡ head bs
@@ -65,7 +65,7 @@ head_no bs bad = none_unless inv_head bs (λ h rest ok e. bad (head_at bs h rest
 pub head_yes : (bs : List ℕ) → ((i : ℕ) → get_or bs i 0 < 256) → HeadAt bs → (n : ℕ) → n ≡ rows_at bs → Some (record { fields = get_or bs 5 0; columns = get_or bs 6 0; rows = n }, take (length bs - 11) (drop 11 bs)) ≡ head bs
 head_yes bs f h n r =
     some_when inv_head bs (record { fields = get_or bs 5 0; columns = get_or bs 6 0; rows = n }) (take (length bs - 11) (drop 11 bs))
-    (let a = h.rows_few in record { fields-some = h.fields-some; fields-few = h.fields-few; columns-some = h.columns-some; columns-few = h.columns-few; rows_few = omega arith })
+    (let a = h.rows_few in record { fields_some = h.fields_some; fields_few = h.fields_few; columns_some = h.columns_some; columns_few = h.columns_few; rows_few = omega arith })
     (seven bs (let a = h.long in omega arith) ∙ marks ∙ ap (λ l. 84 ∷ 76 ∷ 89 ∷ 1 ∷ 0 ∷ get_or bs 5 0 ∷ get_or bs 6 0 % 256 ∷ l) rows_there)
   where
     marks : get_or bs 0 0 ∷ get_or bs 1 0 ∷ get_or bs 2 0 ∷ get_or bs 3 0 ∷ get_or bs 4 0 ∷ get_or bs 5 0 ∷ get_or bs 6 0 ∷ drop 7 bs ≡ 84 ∷ 76 ∷ 89 ∷ 1 ∷ 0 ∷ get_or bs 5 0 ∷ get_or bs 6 0 % 256 ∷ drop 7 bs
@@ -73,7 +73,7 @@ head_yes bs f h n r =
         let v = h.version in
         let low : get_or bs 3 0 ≡ 1 = omega arith in
         let high : get_or bs 4 0 ≡ 0 = omega arith in
-        let c = h.columns-few in
+        let c = h.columns_few in
         let many : get_or bs 6 0 ≡ get_or bs 6 0 % 256 = omega arith in
         cc
 
@@ -124,7 +124,7 @@ module _ {M V A : Type 0} {meaning : M → Meaning V A} {found : ℕ → Option 
   pub shape_yes : (m : M) (x : Option ℕ) → 3 ≤ length bs → Some m ≡ found (get_or bs 0 0) → Some x ≡ measured_of (meaning m).fields fields (get_or bs 1 0) → true ≡ mask_fits fields (get_or bs 2 0) → Some (record { measure = m; measured = x; mask = get_or bs 2 0 }, take (length bs - 3) (drop 3 bs)) ≡ shape meaning found fields bs
   shape_yes m x l h f o =
       let q = measured_only (meaning m).fields fields (get_or bs 1 0) x (sym f) in
-      let kind = laws.found-by (get_or bs 0 0) m (sym h) in
+      let kind = laws.found_by (get_or bs 0 0) m (sym h) in
       let field : get_or bs 1 0 ≡ measured_byte x = ap (λ l. get_or l 0 0) q.1 in
       some_when (inv_shape laws fields few) bs (record { measure = m; measured = x; mask = get_or bs 2 0 }) (take (length bs - 3) (drop 3 bs))
       (record { measured = q.0; mask = sym o })

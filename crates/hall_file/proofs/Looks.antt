@@ -49,7 +49,7 @@ module _ {M V A : Type 0} (meaning : M → Meaning V A) (formed : (m : M) → Fo
       let vb = (meaning s.measure).written g.value in
       let a = length-append kb (bytes_of 4 g.rows ++ vb) in
       let b = key_length (width s) g.key four in
-      let c = ((formed s.measure).written-in-eight-bytes g.value).0 in
+      let c = ((formed s.measure).written_in_eight_bytes g.value).0 in
       omega arith
 
   pub groups_size : (gs : List (Group V)) → All (λ g. length g.key ≡ 4) gs → length (groups_bytes meaning s gs) ≡ length gs * group_length s.mask
@@ -75,7 +75,7 @@ module _ {M V A : Type 0} {meaning : M → Meaning V A} {found : ℕ → Option 
     pub wide : width first.shape ≤ 4
     pub few : All (λ g. g.rows ≤ most_rows) first.groups
     pub good : GoodColumn meaning fields rows first
-    pub others-good : All (GoodColumn meaning fields rows) others
+    pub others_good : All (GoodColumn meaning fields rows) others
 
   pub first_read : (fields rows : ℕ) → fields ≤ 8 → rows ≤ most_rows → (cs : List (Column M V)) (bs : List ℕ) → 0 < length cs → All (GoodColumn meaning fields rows) cs → bs ≡ columns_bytes meaning cs → FirstRead fields rows cs bs
   first_read fields rows h k [] bs l ok e = absurd (omega arith)
@@ -102,7 +102,7 @@ module _ {M V A : Type 0} {meaning : M → Meaning V A} {found : ℕ → Option 
         wide = (good_mask fields h s.mask good.shaped.mask).1;
         few = each_within most_rows c.groups (omega arith);
         good = good;
-        others-good = ok.1;
+        others_good = ok.1;
       }
 
   -- where its groups end, the other columns begin
@@ -132,8 +132,8 @@ module _ {M V A : Type 0} {meaning : M → Meaning V A} {found : ℕ → Option 
     pub others : List (Group V)
     pub is : gs ≡ first ∷ others
     pub reads : group meaning s most_rows bs ≡ Some (first, groups_bytes meaning s others)
-    pub others-few : All (λ g. g.rows ≤ most_rows) others
-    pub others-good : All (GoodGroup meaning s) others
+    pub others_few : All (λ g. g.rows ≤ most_rows) others
+    pub others_good : All (GoodGroup meaning s) others
 
   pub next_read : (s : ColumnShape M) → width s ≤ 4 → (gs : List (Group V)) (bs : List ℕ) → 0 < length gs → All (λ g. g.rows ≤ most_rows) gs → All (GoodGroup meaning s) gs → bs ≡ groups_bytes meaning s gs → NextRead s gs bs
   next_read s w [] bs l few ok e = absurd (omega arith)
@@ -143,8 +143,8 @@ module _ {M V A : Type 0} {meaning : M → Meaning V A} {found : ℕ → Option 
         others = gs;
         is = refl;
         reads = ap (group meaning s most_rows) e ∙ (inv_group laws s w most_rows (omega arith)).back x (groups_bytes meaning s gs) (ok.0, few.0);
-        others-few = few.1;
-        others-good = ok.1;
+        others_few = few.1;
+        others_good = ok.1;
       }
 
 -- what was read, and the bytes after it

@@ -70,10 +70,10 @@ module _ {M V A : Type 0} (meaning : M → Meaning V A) where
 
   -- what a file holds is within the rules
   pub record Good (f : Content M V) : Type 0 where
-    pub fields-some : 1 ≤ f.fields
-    pub fields-few : f.fields ≤ most_fields
-    pub columns-some : 1 ≤ length f.columns
-    pub columns-few : length f.columns ≤ most_columns
+    pub fields_some : 1 ≤ f.fields
+    pub fields_few : f.fields ≤ most_fields
+    pub columns_some : 1 ≤ length f.columns
+    pub columns_few : length f.columns ≤ most_columns
     pub rows_few : f.rows ≤ most_rows
     pub each : All (GoodColumn f.fields f.rows) f.columns
 

@@ -40,7 +40,7 @@ module _ {M V A : Type 0} (meaning : M → Meaning V A) where
 
   -- a view of columns, from one column on, shows these
   pub record ShowsColumns (cs : List (Column M V)) (v : Columns) : Type 0 where
-    pub fields-few : v.head.fields ≤ 8
+    pub fields_few : v.head.fields ≤ 8
     pub rows_few : v.head.rows ≤ most_rows
     pub many : v.number + length cs ≡ v.head.columns
     pub each : All (GoodColumn meaning v.head.fields v.head.rows) cs

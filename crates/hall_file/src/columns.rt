@@ -4,7 +4,7 @@ ghost use Rattle.measures.specs.Values.{most_rows};
 ghost use Rattle.readers.specs.Readers.{after};
 ghost use Rattle.readers.specs.Seen.{seen, passed};
 ghost use Rattle.hall_file.specs.Written.{width as width_of_lem};
-ghost use Rattle.hall_file.specs.Reading.{shape as shape-reader, groups as groups-reader, column as column-reader, columns as columns-reader};
+ghost use Rattle.hall_file.specs.Reading.{shape as shape_reader, groups as groups_reader, column as column_reader, columns as columns_reader};
 
 use crate::groups::{is_after, take_cell};
 use crate::head::Head;
@@ -15,7 +15,7 @@ use readers::take_u16;
 // The shape at the front of bytes, and the bytes after it.
 pub(crate) fn take_shape<M: Measure>(fields: u8, bytes: &[u8]) -> Option<(ColumnShape<M>, &[u8])>
     requires { fields ≤ 8 }
-    ensures { seen result ≡ shape-reader M.Measure.meaning M.Measure.found fields bytes.now }
+    ensures { seen result ≡ shape_reader M.Measure.meaning M.Measure.found fields bytes.now }
 {
     let [kind, measured, mask, rest @ ..] = bytes else {
         return None;
@@ -42,7 +42,7 @@ fn take_groups<'a, M: Measure>(
 ) -> Option<&'a [u8]>
     requires wide { width_of_lem shape.now ≤ 4 }
     requires few { all ≤ most_rows }
-    ensures { passed result ≡ after (groups-reader M.Measure.meaning shape.now count None all bytes.now) }
+    ensures { passed result ≡ after (groups_reader M.Measure.meaning shape.now count None all bytes.now) }
 {
     let mut rest = bytes;
     let mut last = None;
@@ -64,7 +64,7 @@ fn take_groups<'a, M: Measure>(
 fn take_column<M: Measure>(head: Head, bytes: &[u8]) -> Option<&[u8]>
     requires fields { head.fields ≤ 8 }
     requires rows { head.rows ≤ most_rows }
-    ensures { passed result ≡ after (column-reader M.Measure.meaning M.Measure.found head.fields head.rows bytes.now) }
+    ensures { passed result ≡ after (column_reader M.Measure.meaning M.Measure.found head.fields head.rows bytes.now) }
 {
     let (shape, rest) = take_shape::<M>(head.fields, bytes)?;
     let (count, rest) = take_u16(rest)?;
@@ -75,7 +75,7 @@ fn take_column<M: Measure>(head: Head, bytes: &[u8]) -> Option<&[u8]>
 pub(crate) fn take_columns<M: Measure>(head: Head, bytes: &[u8]) -> Option<&[u8]>
     requires fields { head.fields ≤ 8 }
     requires rows { head.rows ≤ most_rows }
-    ensures { passed result ≡ after (columns-reader M.Measure.meaning M.Measure.found head bytes.now) }
+    ensures { passed result ≡ after (columns_reader M.Measure.meaning M.Measure.found head bytes.now) }
 {
     let mut rest = bytes;
     let mut columns_left = head.columns;

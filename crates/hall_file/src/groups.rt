@@ -6,8 +6,8 @@ ghost use Rattle.cells.specs.Columns.{cell_of};
 ghost use Rattle.readers.specs.Readers.{changed};
 ghost use Rattle.readers.specs.Seen.{seen};
 ghost use Rattle.hall_file.specs.Written.{width as width_of_lem};
-ghost use Rattle.hall_file.specs.Rules.{is_after as comes-after};
-ghost use Rattle.hall_file.specs.Reading.{int, key as key-reader, fits as fit, rows as rows-reader, value as value-reader, group as group-reader};
+ghost use Rattle.hall_file.specs.Rules.{is_after as comes_after};
+ghost use Rattle.hall_file.specs.Reading.{int, key as key_reader, fits as fit, rows as rows_reader, value as value_reader, group as group_reader};
 
 use crate::shape::ColumnShape;
 use cells::cell::Cell;
@@ -32,7 +32,7 @@ fn take_int(bytes: &[u8]) -> Option<(i32, &[u8])>
 // A key of so many fields; its other places are 0.
 fn take_key(width: u32, bytes: &[u8]) -> Option<([i32; 4], &[u8])>
     requires { width ≤ 4 }
-    ensures { seen result ≡ key-reader width bytes.now }
+    ensures { seen result ≡ key_reader width bytes.now }
 {
     let mut key = [0; 4];
     let mut rest = bytes;
@@ -63,7 +63,7 @@ fn key_order(a: &[i32; 4], b: &[i32; 4]) -> Ordering
 
 // Whether a key comes after the one before it, if there is one.
 pub(crate) fn is_after(last: Option<[i32; 4]>, key: &[i32; 4]) -> bool
-    ensures { result ≡ comes-after last key.now }
+    ensures { result ≡ comes_after last key.now }
 {
     match last {
         None => true,
@@ -79,7 +79,7 @@ fn fits(left: u32, rows: u32) -> bool
 }
 
 fn take_rows(left: u32, bytes: &[u8]) -> Option<(u32, &[u8])>
-    ensures { seen result ≡ rows-reader left bytes.now }
+    ensures { seen result ≡ rows_reader left bytes.now }
 {
     let (rows, rest) = take_u32(bytes)?;
     if fits(left, rows) {
@@ -94,7 +94,7 @@ fn take_value<'a, M: Measure>(
     rows: u32,
     bytes: &'a [u8],
 ) -> Option<(M::Value, &'a [u8])>
-    ensures { seen result ≡ value-reader (M.Measure.meaning measure.now) rows bytes.now }
+    ensures { seen result ≡ value_reader (M.Measure.meaning measure.now) rows bytes.now }
 {
     let (word, rest) = bytes.split_first_chunk::<8>()?;
     let value = measure.read(word)?;
@@ -113,7 +113,7 @@ pub(crate) fn take_cell<'a, M: Measure>(
     bytes: &'a [u8],
 ) -> Option<(Cell<M::Value>, &'a [u8])>
     requires { width_of_lem shape.now ≤ 4 }
-    ensures { seen result ≡ changed (cell_of column) (group-reader M.Measure.meaning shape.now left bytes.now) }
+    ensures { seen result ≡ changed (cell_of column) (group_reader M.Measure.meaning shape.now left bytes.now) }
 {
     let (key, rest) = take_key(shape.mask.count_ones(), bytes)?;
     let (rows, rest) = take_rows(left, rest)?;

@@ -4,7 +4,7 @@ ghost use Rattle.measures.specs.Values.{most_rows};
 ghost use Rattle.readers.specs.Seen.{seen};
 ghost use Rattle.hall_file.specs.Written.{version};
 ghost use Rattle.hall_file.specs.Rules.{most_fields, most_columns};
-ghost use Rattle.hall_file.specs.Reading.{one_to, head as head-reader};
+ghost use Rattle.hall_file.specs.Reading.{one_to, head as head_reader};
 
 use measures::values::MOST_ROWS;
 
@@ -51,7 +51,7 @@ fn is_row_count(rows: u32) -> bool
 
 // The head at the front of bytes, and the bytes after it.
 pub(crate) fn take_head(bytes: &[u8]) -> Option<(Head, &[u8])>
-    ensures { seen result ≡ head-reader bytes.now }
+    ensures { seen result ≡ head_reader bytes.now }
 {
     let [
         b'T',

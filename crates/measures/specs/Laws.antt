@@ -45,30 +45,30 @@ counted_adds a b h = grind (arith, nat_tests)
 
 pub count_keeps : Properties count
 count_keeps = record {
-  join-associates = λ a b c i j k p q r s.
+  join_associates = λ a b c i j k p q r s.
       let ea = eqb-true a i p in let eb = eqb-true b j q in let ec = eqb-true c k r in
       let ab = counted_adds a b (omega arith) in
       let bc = counted_adds b c (omega arith) in
       ap (λ x. counted x c) ab ∙ counted_adds (a + b) c (omega arith) ∙ omega arith ∙ sym (ap (counted a) bc ∙ counted_adds a (b + c) (omega arith));
-  join-commutes = λ a b i j p q r.
+  join_commutes = λ a b i j p q r.
       let ea = eqb-true a i p in let eb = eqb-true b j q in
       counted_adds a b (omega arith) ∙ omega arith ∙ sym (counted_adds b a (omega arith));
-  none-joins-to-the-same = λ a. refl;
-  none-for-no-rows = refl;
-  only-none-for-no-rows = λ a p. eqb-true a 0 p;
-  one-row-is-possible = λ vs e p. refl;
-  join-is-possible = λ a b i j p q r.
+  none_joins_to_the_same = λ a. refl;
+  none_for_no_rows = refl;
+  only_none_for_no_rows = λ a p. eqb-true a 0 p;
+  one_row_is_possible = λ vs e p. refl;
+  join_is_possible = λ a b i j p q r.
       let ea = eqb-true a i p in let eb = eqb-true b j q in
       eq-eqb _ _ (counted_adds a b (omega arith) ∙ omega arith);
-  written-reads-back = λ a w.
+  written_reads_back = λ a w.
       let e = eqb-true a w.0 w.3 in
       let back = word_of_bytes_of 8 a (omega arith) in
       read_if _ _ _ (grind (arith, nat_tests)) back;
-  nothing-else-reads-so = λ a bs w e p. sym (eight_bytes_of bs e) ∙ ap (bytes_of 8) (was_read_if _ _ _ p).1;
+  nothing_else_reads_so = λ a bs w e p. sym (eight_bytes_of bs e) ∙ ap (bytes_of 8) (was_read_if _ _ _ p).1;
 }
 
 pub count_formed : Formed count
-count_formed = record { kind-is-a-byte = omega arith; written-in-eight-bytes = bytes_of_eight }
+count_formed = record { kind_is_a_byte = omega arith; written_in_eight_bytes = bytes_of_eight }
 
 -- a sum that is in bounds is the plain sum
 pub total_adds : (a b : ℤ) → unsigned_abs (a +ℤ b) ≤ 999999999000000 → total a b ≡ a +ℤ b
@@ -77,31 +77,31 @@ total_adds a b h = grind (arith, ints, nat_tests)
 module _ (kind : ℕ) (answer : ℤ → ℕ → Answer) where
   pub adding_keeps : Properties (adding kind answer)
   adding_keeps = record {
-    join-associates = λ a b c i j k p q r s.
+    join_associates = λ a b c i j k p q r s.
         let ha = leb-true (unsigned_abs a) (greatest_value * i) p in
         let hb = leb-true (unsigned_abs b) (greatest_value * j) q in
         let hc = leb-true (unsigned_abs c) (greatest_value * k) r in
         let ab = total_adds a b (omega (arith, ints)) in
         let bc = total_adds b c (omega (arith, ints)) in
         ap (λ x. total x c) ab ∙ total_adds (a +ℤ b) c (omega (arith, ints)) ∙ omega (arith, ints) ∙ sym (ap (total a) bc ∙ total_adds a (b +ℤ c) (omega (arith, ints)));
-    join-commutes = λ a b i j p q r.
+    join_commutes = λ a b i j p q r.
         let ha = leb-true (unsigned_abs a) (greatest_value * i) p in
         let hb = leb-true (unsigned_abs b) (greatest_value * j) q in
         total_adds a b (omega (arith, ints)) ∙ omega (arith, ints) ∙ sym (total_adds b a (omega (arith, ints)));
-    none-joins-to-the-same = λ a. refl;
-    none-for-no-rows = refl;
-    only-none-for-no-rows = λ a p. omega (arith, ints, leb-true (unsigned_abs a) (greatest_value * 0) p);
-    one-row-is-possible = λ vs e p. le-leb _ _ (measured_row_value vs e p);
-    join-is-possible = λ a b i j p q r.
+    none_joins_to_the_same = λ a. refl;
+    none_for_no_rows = refl;
+    only_none_for_no_rows = λ a p. omega (arith, ints, leb-true (unsigned_abs a) (greatest_value * 0) p);
+    one_row_is_possible = λ vs e p. le-leb _ _ (measured_row_value vs e p);
+    join_is_possible = λ a b i j p q r.
         let ha = leb-true (unsigned_abs a) (greatest_value * i) p in
         let hb = leb-true (unsigned_abs b) (greatest_value * j) q in
         ap (λ x. is_sum_of x (i + j)) (total_adds a b (omega (arith, ints))) ∙ le-leb _ _ (omega (arith, ints));
-    written-reads-back = λ a w. ap Some (signed_word_back a (omega (arith, ints, leb-true (unsigned_abs a) (greatest_value * w.0) w.3)));
-    nothing-else-reads-so = λ a bs w e p. signed_word_only a bs e (cc);
+    written_reads_back = λ a w. ap Some (signed_word_back a (omega (arith, ints, leb-true (unsigned_abs a) (greatest_value * w.0) w.3)));
+    nothing_else_reads_so = λ a bs w e p. signed_word_only a bs e (cc);
   }
 
   pub adding_formed : kind < 256 → Formed (adding kind answer)
-  adding_formed h = record { kind-is-a-byte = h; written-in-eight-bytes = λ a. bytes_of_eight (of_z w64 a) }
+  adding_formed h = record { kind_is_a_byte = h; written_in_eight_bytes = λ a. bytes_of_eight (of_z w64 a) }
 
 row_value_fits : (a : ℤ) → RowValue a → FitsSigned w64 a
 row_value_fits a h = omega (arith, ints)
@@ -152,15 +152,15 @@ module _ (kind : ℕ) (pick : ℤ → ℤ → ℤ) (associates : (a b c : ℤ) �
 
   pub extreme_keeps : Properties (extreme kind pick)
   extreme_keeps = record {
-    join-associates = λ a b c i j k p q r s. better_associates a b c;
-    join-commutes = λ a b i j p q r. better_commutes a b;
-    none-joins-to-the-same = λ a. refl;
-    none-for-no-rows = refl;
-    only-none-for-no-rows = only_none;
-    one-row-is-possible = λ vs e p. le-leb _ _ (measured_row_value vs e p);
-    join-is-possible = λ a b i j p q r. better_possible a b i j p q;
-    written-reads-back = reads_back;
-    nothing-else-reads-so = reads_only;
+    join_associates = λ a b c i j k p q r s. better_associates a b c;
+    join_commutes = λ a b i j p q r. better_commutes a b;
+    none_joins_to_the_same = λ a. refl;
+    none_for_no_rows = refl;
+    only_none_for_no_rows = only_none;
+    one_row_is_possible = λ vs e p. le-leb _ _ (measured_row_value vs e p);
+    join_is_possible = λ a b i j p q r. better_possible a b i j p q;
+    written_reads_back = reads_back;
+    nothing_else_reads_so = reads_only;
   }
 
 -- what is written of an extreme is eight bytes
@@ -172,10 +172,10 @@ pub least_keeps : Properties least
 least_keeps = extreme_keeps 3 int_min (λ a b c. omega (arith, ints, clamps)) (λ a b. omega (arith, ints, clamps)) (λ a b p q. omega (arith, ints, clamps))
 
 pub least_formed : Formed least
-least_formed = record { kind-is-a-byte = omega arith; written-in-eight-bytes = extreme_eight }
+least_formed = record { kind_is_a_byte = omega arith; written_in_eight_bytes = extreme_eight }
 
 pub greatest_keeps : Properties greatest
 greatest_keeps = extreme_keeps 4 int_max (λ a b c. omega (arith, ints, clamps)) (λ a b. omega (arith, ints, clamps)) (λ a b p q. omega (arith, ints, clamps))
 
 pub greatest_formed : Formed greatest
-greatest_formed = record { kind-is-a-byte = omega arith; written-in-eight-bytes = extreme_eight }
+greatest_formed = record { kind_is_a_byte = omega arith; written_in_eight_bytes = extreme_eight }

@@ -36,17 +36,17 @@ Writable m a = (n : ℕ) × (1 ≤ n) × (n ≤ most_rows) × Possible m a n
 -- The six properties. The first is two fields, associative and commutative; the third two, that
 -- none is possible for no rows and that nothing else is; the sixth two, forth and back.
 pub record Properties {V A : Type 0} (m : Meaning V A) : Type 0 where
-  pub join-associates : (a b c : V) (i j k : ℕ) → Possible m a i → Possible m b j → Possible m c k → i + j + k ≤ most_rows → m.join (m.join a b) c ≡ m.join a (m.join b c)
-  pub join-commutes : (a b : V) (i j : ℕ) → Possible m a i → Possible m b j → i + j ≤ most_rows → m.join a b ≡ m.join b a
-  pub none-joins-to-the-same : (a : V) → m.join m.none a ≡ a
-  pub none-for-no-rows : Possible m m.none 0
-  pub only-none-for-no-rows : (a : V) → Possible m a 0 → a ≡ m.none
-  pub one-row-is-possible : (vs : List ℤ) → length vs ≡ m.fields → All RowValue vs → Possible m (m.one vs) 1
-  pub join-is-possible : (a b : V) (i j : ℕ) → Possible m a i → Possible m b j → i + j ≤ most_rows → Possible m (m.join a b) (i + j)
-  pub written-reads-back : (a : V) → Writable m a → m.reads (m.written a) ≡ Some a
-  pub nothing-else-reads-so : (a : V) (bs : List ℕ) → Writable m a → EightBytes bs → m.reads bs ≡ Some a → bs ≡ m.written a
+  pub join_associates : (a b c : V) (i j k : ℕ) → Possible m a i → Possible m b j → Possible m c k → i + j + k ≤ most_rows → m.join (m.join a b) c ≡ m.join a (m.join b c)
+  pub join_commutes : (a b : V) (i j : ℕ) → Possible m a i → Possible m b j → i + j ≤ most_rows → m.join a b ≡ m.join b a
+  pub none_joins_to_the_same : (a : V) → m.join m.none a ≡ a
+  pub none_for_no_rows : Possible m m.none 0
+  pub only_none_for_no_rows : (a : V) → Possible m a 0 → a ≡ m.none
+  pub one_row_is_possible : (vs : List ℤ) → length vs ≡ m.fields → All RowValue vs → Possible m (m.one vs) 1
+  pub join_is_possible : (a b : V) (i j : ℕ) → Possible m a i → Possible m b j → i + j ≤ most_rows → Possible m (m.join a b) (i + j)
+  pub written_reads_back : (a : V) → Writable m a → m.reads (m.written a) ≡ Some a
+  pub nothing_else_reads_so : (a : V) (bs : List ℕ) → Writable m a → EightBytes bs → m.reads bs ≡ Some a → bs ≡ m.written a
 
 -- The kind is a byte, and what is written is eight of them.
 pub record Formed {V A : Type 0} (m : Meaning V A) : Type 0 where
-  pub kind-is-a-byte : m.kind < 256
-  pub written-in-eight-bytes : (a : V) → EightBytes (m.written a)
+  pub kind_is_a_byte : m.kind < 256
+  pub written_in_eight_bytes : (a : V) → EightBytes (m.written a)

@@ -1,6 +1,6 @@
 // What a measure answers.
 ghost use Rattle.std.specs.Prelude.{Some};
-ghost use Rattle.measures.specs.Answers.{shown as answer-text};
+ghost use Rattle.measures.specs.Answers.{shown as answer_text};
 
 use std::fmt;
 
@@ -16,7 +16,7 @@ pub enum Answer {
 
 // As a standing shows it.
 impl fmt::Display for Answer {
-    ghost output = { λ a. Some (answer-text a) };
+    ghost output = { λ a. Some (answer_text a) };
 
     fn fmt<W: fmt::Write>(&self, f: &mut fmt::Formatter<W>) -> fmt::Result {
         match *self {

@@ -48,10 +48,10 @@ spell_done w from i g e n =
     (e ∙ ap (λ x. take (i - from) (drop from w) ++ x) z.0 ∙ append-nil _, n ∙ z.1)
   where
     head : i < length w → (get_or (drop i w) 0 0 ≡ 32) ⊎ (get_or (drop i w) 0 0 ≡ 10)
-    head h = rw front-byte (g h)
+    head h = rw front_byte (g h)
       where
-        front-byte : get_or (drop i w) 0 0 ≡ get_or w i 0
-        front-byte = get_or-drop i w 0 0 ∙ ap (λ k. get_or w k 0) (omega arith)
+        front_byte : get_or (drop i w) 0 0 ≡ get_or w i 0
+        front_byte = get_or-drop i w 0 0 ∙ ap (λ k. get_or w k 0) (omega arith)
 
 -- letters of one kind
 module _ (f : ℕ → Bool) (w : List ℕ) (i : ℕ) where

@@ -1,7 +1,7 @@
 // What can be done with open groups.
 ghost use Rattle.std.specs.Prelude.{◌≡◌, ℕ, ◌+◌, List, length, vec_len};
 ghost use Rattle.cells.specs.Groups.{lookup};
-ghost use Rattle.cells.specs.Contributions.{there, begins as has-begun, beginning, ids as ids-of, heard_on};
+ghost use Rattle.cells.specs.Contributions.{there, begins as has_begun, beginning, ids as ids_of, heard_on};
 ghost use Rattle.groups.specs.Held.{open_groups, Starting, Adding, Sorting};
 
 use crate::added::Added;
@@ -67,7 +67,7 @@ impl<V: Copy> OpenGroups<V> {
 
     // Whether a group is not there yet, and is not among those to come later.
     fn begins(&self, id: &GroupId, later: &[GroupId]) -> bool
-        ensures { result ≡ has-begun id.now later.now (open_groups self.now) }
+        ensures { result ≡ has_begun id.now later.now (open_groups self.now) }
     {
         if self.has(id) {
             false
@@ -80,7 +80,7 @@ impl<V: Copy> OpenGroups<V> {
     // counts once; to see that, each new id is compared with those after it.
     pub fn missing(&self, ids: &[GroupId]) -> usize
         ensures counts { result ≡ beginning ids.now (open_groups self.now) }
-        ensures exact { (joins : ℕ → V → V → V) (xs : List (Cell V)) → ids-of xs ≡ ids.now → length (heard_on joins (open_groups self.now) xs) ≡ length (open_groups self.now) + result }
+        ensures exact { (joins : ℕ → V → V → V) (xs : List (Cell V)) → ids_of xs ≡ ids.now → length (heard_on joins (open_groups self.now) xs) ≡ length (open_groups self.now) + result }
     {
         let mut n = 0;
         for i in 0..ids.len() {

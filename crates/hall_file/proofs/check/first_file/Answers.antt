@@ -7,7 +7,7 @@ use Rattle.hall_file.proofs.check.first_file.Given.{Over}
 use Rattle.hall_file.proofs.check.first_file.Goals as goal
 
 laws : (g : Over) → Lawful g.M.Measure.meaning g.M.Measure.found
-laws g = record { keeps = g.met.M.Measure.keeps; formed = g.met.M.Measure.formed; finds = g.met.M.Measure.found_by_its_kind; found-by = g.met.M.Measure.has_the_kind_it_is_found_by }
+laws g = record { keeps = g.met.M.Measure.keeps; formed = g.met.M.Measure.formed; finds = g.met.M.Measure.found_by_its_kind; found_by = g.met.M.Measure.has_the_kind_it_is_found_by }
 
 pub returns-in_err-head : goal.returns-in_err-head
 returns-in_err-head g c = subst (FirstFile g.M.Measure.meaning c.args.bytes.now) (sym c.from_residual.ensures) (no_head (laws g) c.args.bytes.now c.in_err-head.ensures)

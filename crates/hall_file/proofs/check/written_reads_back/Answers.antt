@@ -10,7 +10,7 @@ use Rattle.hall_file.proofs.check.written_reads_back.Given.{Over}
 use Rattle.hall_file.proofs.check.written_reads_back.Goals as goal
 
 laws : (g : Over) → Lawful g.M.Measure.meaning g.M.Measure.found
-laws g = record { keeps = g.met.M.Measure.keeps; formed = g.met.M.Measure.formed; finds = g.met.M.Measure.found_by_its_kind; found-by = g.met.M.Measure.has_the_kind_it_is_found_by }
+laws g = record { keeps = g.met.M.Measure.keeps; formed = g.met.M.Measure.formed; finds = g.met.M.Measure.found_by_its_kind; found_by = g.met.M.Measure.has_the_kind_it_is_found_by }
 
 pub returns : goal.returns
 returns g c f r good checked = go r checked

@@ -7,7 +7,7 @@ use Rattle.hall_file.proofs.columns.take_column.Given.{Over}
 use Rattle.hall_file.proofs.columns.take_column.Goals as goal
 
 laws : (g : Over) → Lawful g.M.Measure.meaning g.M.Measure.found
-laws g = record { keeps = g.met.M.Measure.keeps; formed = g.met.M.Measure.formed; finds = g.met.M.Measure.found_by_its_kind; found-by = g.met.M.Measure.has_the_kind_it_is_found_by }
+laws g = record { keeps = g.met.M.Measure.keeps; formed = g.met.M.Measure.formed; finds = g.met.M.Measure.found_by_its_kind; found_by = g.met.M.Measure.has_the_kind_it_is_found_by }
 
 pub returns-in_err-shape : goal.returns-in_err-shape
 returns-in_err-shape g c = ap passed c.from_residual.ensures ∙ column_no_shape g.M.Measure.meaning g.M.Measure.found c.args.head.fields c.args.head.rows c.args.bytes.now c.in_err-shape.ensures

@@ -8,7 +8,7 @@ use Rattle.hall_file.proofs.columns.take_groups.Given.{Over}
 use Rattle.hall_file.proofs.columns.take_groups.Goals as goal
 
 laws : (g : Over) → Lawful g.M.Measure.meaning g.M.Measure.found
-laws g = record { keeps = g.met.M.Measure.keeps; formed = g.met.M.Measure.formed; finds = g.met.M.Measure.found_by_its_kind; found-by = g.met.M.Measure.has_the_kind_it_is_found_by }
+laws g = record { keeps = g.met.M.Measure.keeps; formed = g.met.M.Measure.formed; finds = g.met.M.Measure.found_by_its_kind; found_by = g.met.M.Measure.has_the_kind_it_is_found_by }
 
 pub returns-in_err-cell : goal.returns-in_err-cell
 returns-in_err-cell g c =

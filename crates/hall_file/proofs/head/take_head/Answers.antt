@@ -19,10 +19,10 @@ pub returns-then-not-is_version : goal.returns-then-not-is_version
 returns-then-not-is_version c = head_no c.args.bytes.now (λ h. both_ways _ (sym c.if-not-is_version.ensures) (eq-eqb _ 1 h.version))
 
 pub returns-then-not-is_field_count : goal.returns-then-not-is_field_count
-returns-then-not-is_field_count c = head_no c.args.bytes.now (λ h. both_ways _ (sym c.if-not-is_field_count.ensures) (and_from _ _ (le-leb 1 _ h.fields-some) (le-leb _ 8 h.fields-few)))
+returns-then-not-is_field_count c = head_no c.args.bytes.now (λ h. both_ways _ (sym c.if-not-is_field_count.ensures) (and_from _ _ (le-leb 1 _ h.fields_some) (le-leb _ 8 h.fields_few)))
 
 pub returns-then-not-is_column_count : goal.returns-then-not-is_column_count
-returns-then-not-is_column_count c = head_no c.args.bytes.now (λ h. both_ways _ (sym c.if-not-is_column_count.ensures) (and_from _ _ (le-leb 1 _ h.columns-some) (le-leb _ 8 h.columns-few)))
+returns-then-not-is_column_count c = head_no c.args.bytes.now (λ h. both_ways _ (sym c.if-not-is_column_count.ensures) (and_from _ _ (le-leb 1 _ h.columns_some) (le-leb _ 8 h.columns_few)))
 
 pub returns-then-not-is_row_count : goal.returns-then-not-is_row_count
 returns-then-not-is_row_count c =
@@ -38,5 +38,5 @@ returns c =
     let k = and_parts (leb 1 (get_or bs 6 0)) (leb (get_or bs 6 0) 8) (sym c.if-not-is_column_count.ensures) in
     let n = leb-true c.from_le_bytes-rows.result 1000000 (sym c.if-not-is_row_count.ensures) in
     head_yes bs (λ i. (c.type_inv.bytes i).fits)
-    (record { long = omega (arith, ltb-false); t = omega arith; l = omega arith; y = omega arith; version = v; fields-some = leb-true 1 _ f.0; fields-few = leb-true _ 8 f.1; columns-some = leb-true 1 _ k.0; columns-few = leb-true _ 8 k.1; rows_few = omega arith })
+    (record { long = omega (arith, ltb-false); t = omega arith; l = omega arith; y = omega arith; version = v; fields_some = leb-true 1 _ f.0; fields_few = leb-true _ 8 f.1; columns_some = leb-true 1 _ k.0; columns_few = leb-true _ 8 k.1; rows_few = omega arith })
     c.from_le_bytes-rows.result e

@@ -13,13 +13,13 @@ use Rattle.hall_file.proofs.view.Columns.split_first.Given.{Over}
 use Rattle.hall_file.proofs.view.Columns.split_first.Goals as goal
 
 laws : (g : Over) → Lawful g.M.Measure.meaning g.M.Measure.found
-laws g = record { keeps = g.met.M.Measure.keeps; formed = g.met.M.Measure.formed; finds = g.met.M.Measure.found_by_its_kind; found-by = g.met.M.Measure.has_the_kind_it_is_found_by }
+laws g = record { keeps = g.met.M.Measure.keeps; formed = g.met.M.Measure.formed; finds = g.met.M.Measure.found_by_its_kind; found_by = g.met.M.Measure.has_the_kind_it_is_found_by }
 
 -- what is read at the front, where there is a column
 start : (g : Over) (v : Columns) (cs : List (Column g.row.M.Denot g.row.M-Value.Denot)) → ShowsColumns g.M.Measure.meaning cs v → v.number < v.head.columns → FirstRead (laws g) v.head.fields v.head.rows cs v.bytes.now
 start g v cs sh l =
     let many = sh.many in
-    first_read (laws g) v.head.fields v.head.rows sh.fields-few sh.rows_few cs v.bytes.now (omega arith) sh.each sh.bytes
+    first_read (laws g) v.head.fields v.head.rows sh.fields_few sh.rows_few cs v.bytes.now (omega arith) sh.each sh.bytes
 
 pub returns-then-self : goal.returns-then-self
 returns-then-self g c cs sh = let many = sh.many in nil_from_length cs (omega arith)
@@ -56,6 +56,6 @@ returns g c cs sh =
       s.is,
       record { shape = p.0; wide = s.wide; many = q.0; few = s.few; each = s.good.each; bytes = k.groups },
       refl,
-      record { fields-few = sh.fields-few; rows_few = sh.rows_few; many = omega arith; each = s.others-good; bytes = k.others },
+      record { fields_few = sh.fields_few; rows_few = sh.rows_few; many = omega arith; each = s.others_good; bytes = k.others },
       refl,
     )

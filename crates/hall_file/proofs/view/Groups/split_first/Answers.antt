@@ -15,7 +15,7 @@ use Rattle.hall_file.proofs.view.Groups.split_first.Given.{Over}
 use Rattle.hall_file.proofs.view.Groups.split_first.Goals as goal
 
 laws : (g : Over) → Lawful g.M.Measure.meaning g.M.Measure.found
-laws g = record { keeps = g.met.M.Measure.keeps; formed = g.met.M.Measure.formed; finds = g.met.M.Measure.found_by_its_kind; found-by = g.met.M.Measure.has_the_kind_it_is_found_by }
+laws g = record { keeps = g.met.M.Measure.keeps; formed = g.met.M.Measure.formed; finds = g.met.M.Measure.found_by_its_kind; found_by = g.met.M.Measure.has_the_kind_it_is_found_by }
 
 -- what is read at the front, where there is a group
 start : (g : Over) (v : Groups g.row.M.Denot) (s : ColumnShape g.row.M.Denot) (gs : List (Group g.row.M-Value.Denot)) → ShowsGroups g.M.Measure.meaning s gs v → 0 < v.left → NextRead (laws g) s gs v.bytes.now
@@ -43,4 +43,4 @@ returns g c s gs sh =
     let p = some_pair _ _ _ _ (c.in_ok-cell.ensures ∙ ap (changed (cell_of c.args.self.number)) (reads_here g c.args.self s gs sh l ∙ n.reads)) in
     let many = sh.many in
     let one_less = ap length n.is in
-    (n.first, n.others, n.is, p.0, record { shape = sh.shape; wide = sh.wide; many = omega arith; few = n.others-few; each = n.others-good; bytes = p.1 }, refl)
+    (n.first, n.others, n.is, p.0, record { shape = sh.shape; wide = sh.wide; many = omega arith; few = n.others_few; each = n.others_good; bytes = p.1 }, refl)
