@@ -12,8 +12,8 @@ use Rattle.plan.proofs.reading.read_plan.Goals as goal
 pub returns-then-text-gt-MOST_BYTES : goal.returns-then-text-gt-MOST_BYTES
 returns-then-text-gt-MOST_BYTES c = too_long c.args.text.now c.if-text-gt-MOST_BYTES.true
 
-pub returns-in_err-read_names : goal.returns-in_err-read_names
-returns-in_err-read_names c =
+pub returns-in_err-read_names-in-Rows-Rows : goal.returns-in_err-read_names-in-Rows-Rows
+returns-in_err-read_names-in-Rows-Rows c =
     let y = err_from_is_err_and c.from_residual.result c.from_residual.ensures.1 in
     let u = subst (λ a. Unread a c.loop-awaits.plan) c.in-Rows-Rows.is-0 c.loop-awaits.invariant.1 in
     refused _ _ _ _ y.1 y.2
@@ -22,7 +22,7 @@ returns-in_err-read_names c =
     ∙ ap (λ a. rest c.loop-awaits.words (awaited a c.loop-awaits.plan)) c.in-Rows-Rows.is-0
     ∙ rows_begin c.loop-awaits.words c.leading_of.result (c.leading_of.ensures ∙ ap leading c.peek.ensures.seen) c.advance.new.self c.in-Rows-Rows.is-1 (advanced c.loop-awaits.words c.advance.new.self _ c.advance.ensures.words c.advance.ensures.place)
     ∙ ap (λ ns. rest c.advance.new.self (rows ns)) (sym u.0)
-    ∙ c.in_err-read_names.ensures.value rows second rows_line u.0)
+    ∙ c.in_err-read_names-in-Rows-Rows.ensures.value rows second rows_line u.0)
 
 pub loop-awaits-preserved-in-Rows-Rows : goal.loop-awaits-preserved-in-Rows-Rows
 unfolding columns_of
@@ -32,13 +32,13 @@ loop-awaits-preserved-in-Rows-Rows c =
           ∙ ap (λ a. rest c.loop-awaits.words (awaited a c.loop-awaits.plan)) c.in-Rows-Rows.is-0
           ∙ rows_begin c.loop-awaits.words c.leading_of.result (c.leading_of.ensures ∙ ap leading c.peek.ensures.seen) c.advance.new.self c.in-Rows-Rows.is-1 (advanced c.loop-awaits.words c.advance.new.self _ c.advance.ensures.words c.advance.ensures.place)
           ∙ ap (λ ns. rest c.advance.new.self (rows ns)) (sym u.0)
-          ∙ c.in_ok-read_names.ensures.value rows second rows_line u.0,
+          ∙ c.in_ok-read_names-in-Rows-Rows.ensures.value rows second rows_line u.0,
       (u.1, u.2),
     )
 
-pub returns-in_err-read_names-2 : goal.returns-in_err-read_names-2
-returns-in_err-read_names-2 c =
-    let y = err_from_is_err_and c.from_residual-in_err-read_names-2.result c.from_residual-in_err-read_names-2.ensures.1 in
+pub returns-in_err-read_names-in-Base-Base : goal.returns-in_err-read_names-in-Base-Base
+returns-in_err-read_names-in-Base-Base c =
+    let y = err_from_is_err_and c.from_residual-in_err-read_names-in-Base-Base.result c.from_residual-in_err-read_names-in-Base-Base.ensures.1 in
     let u = subst (λ a. Unread a c.loop-awaits.plan) c.in-Base-Base.is-0 c.loop-awaits.invariant.1 in
     let rs = texts c.loop-awaits.plan.names.rows in
     refused _ _ _ _ y.1 y.2
@@ -47,7 +47,7 @@ returns-in_err-read_names-2 c =
     ∙ ap (λ a. rest c.loop-awaits.words (awaited a c.loop-awaits.plan)) c.in-Base-Base.is-0
     ∙ base_begin c.loop-awaits.words c.leading_of.result (c.leading_of.ensures ∙ ap leading c.peek.ensures.seen) c.advance-in-Base-Base.new.self rs c.in-Base-Base.is-1 (advanced c.loop-awaits.words c.advance-in-Base-Base.new.self _ c.advance-in-Base-Base.ensures.words c.advance-in-Base-Base.ensures.place)
     ∙ ap (λ ns. rest c.advance-in-Base-Base.new.self (bases rs ns)) (sym u.0)
-    ∙ c.in_err-read_names-2.ensures.value (bases rs) (λ ms. line (record { rows = rs; base = ms; columns = [] })) (base_line rs) u.0)
+    ∙ c.in_err-read_names-in-Base-Base.ensures.value (bases rs) (λ ms. line (record { rows = rs; base = ms; columns = [] })) (base_line rs) u.0)
 
 pub loop-awaits-preserved-in-Base-Base : goal.loop-awaits-preserved-in-Base-Base
 unfolding columns_of
@@ -58,27 +58,27 @@ loop-awaits-preserved-in-Base-Base c =
           ∙ ap (λ a. rest c.loop-awaits.words (awaited a c.loop-awaits.plan)) c.in-Base-Base.is-0
           ∙ base_begin c.loop-awaits.words c.leading_of.result (c.leading_of.ensures ∙ ap leading c.peek.ensures.seen) c.advance-in-Base-Base.new.self rs c.in-Base-Base.is-1 (advanced c.loop-awaits.words c.advance-in-Base-Base.new.self _ c.advance-in-Base-Base.ensures.words c.advance-in-Base-Base.ensures.place)
           ∙ ap (λ ns. rest c.advance-in-Base-Base.new.self (bases rs ns)) (sym u.0)
-          ∙ c.in_ok-read_names-2.ensures.value (bases rs) (λ ms. line (record { rows = rs; base = ms; columns = [] })) (base_line rs) u.0
+          ∙ c.in_ok-read_names-in-Base-Base.ensures.value (bases rs) (λ ms. line (record { rows = rs; base = ms; columns = [] })) (base_line rs) u.0
           ∙ ap (λ cs. rest c.read_names-in-Base-Base.new.words (line (record { rows = rs; base = texts c.read_names-in-Base-Base.new.table; columns = cs }))) (sym u.1),
       tt,
     )
 
-pub returns-in_err-read_column : goal.returns-in_err-read_column
-returns-in_err-read_column c =
-    let y = err_from_is_err_and c.from_residual-in_err-read_column.result c.from_residual-in_err-read_column.ensures.1 in
+pub returns-in_err-read_column-in-Columns-default : goal.returns-in_err-read_column-in-Columns-default
+returns-in_err-read_column-in-Columns-default c =
+    let y = err_from_is_err_and c.from_residual-in_err-read_column-in-Columns-default.result c.from_residual-in_err-read_column-in-Columns-default.ensures.1 in
     refused _ _ _ _ y.1 y.2
     (begins c.args.text.now c.of-words.result c.if-text-gt-MOST_BYTES.false c.of-words.ensures.words c.of-words.ensures.place
     ∙ c.loop-awaits.invariant.0
     ∙ ap (λ a. rest c.loop-awaits.words (awaited a c.loop-awaits.plan)) c.in-Columns-default.is-0
     ∙ column_begins c.loop-awaits.words _ c.loop-awaits-test.ensures
-    ∙ c.in_err-read_column.ensures.value)
+    ∙ c.in_err-read_column-in-Columns-default.ensures.value)
 
 pub loop-awaits-preserved : goal.loop-awaits-preserved
 loop-awaits-preserved c = (
   c.loop-awaits.invariant.0
       ∙ ap (λ a. rest c.loop-awaits.words (awaited a c.loop-awaits.plan)) c.in-Columns-default.is-0
       ∙ column_begins c.loop-awaits.words _ c.loop-awaits-test.ensures
-      ∙ c.in_ok-read_column.ensures.value
+      ∙ c.in_ok-read_column-in-Columns-default.ensures.value
       ∙ sym (ap (λ a. rest c.read_column.new.words (awaited a c.read_column.new.plan)) c.in-Columns-default.is-0),
   subst (λ a. Unread a c.read_column.new.plan) (sym c.in-Columns-default.is-0) tt,
 )
