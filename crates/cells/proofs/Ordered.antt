@@ -2,15 +2,14 @@
 use Rattle.std.proofs.Common.{◌≡◌, ℕ, suc, ◌+◌, ◌<◌, ◌≤◌, ◌⊎◌, List, [], ◌∷◌, length, get_or, drop, ℤ, pos, ◌<ℤ◌, Ordering, Less, Equal, Greater, sym, refl, ap, ◌∙◌, subst, inl, inr, add-one, arith, drop-cons}
 use Rattle.std.proofs.lemmas.Bool.{cases_lt}
 use borrow.Author.Differences.{ints}
-use Rattle.std.specs.Cmp.{int_cmp_total, int_ranks}
-use Rattle.std.specs.Cmp.Lexicographic.{lexical}
+use Rattle.std.specs.Cmp.{int_cmp_is, int_ranks}
 use Rattle.std.specs.Ordering.{MatchOrdering, ordering_reverse, ordering_then, int_cmp}
 use Rattle.cells.specs.declared.id.GroupId.{GroupId}
-use Rattle.cells.specs.Order.{order, key_order, numbers}
+use Rattle.cells.specs.Order.{order, order_total, key_order, numbers}
 
 -- a column's answer as the answer at signed numbers
 pub column_rank : (a b : ℕ) (r : Ordering) → MatchOrdering r (a < b) (a ≡ b) (b < a) → r ≡ int_cmp (pos a) (pos b)
-column_rank a b r h = (int_cmp_total.says (pos a) (pos b) r (at r h)) where
+column_rank a b r h = int_cmp_is (pos a) (pos b) r (at r h) where
   at : (r : Ordering) → MatchOrdering r (a < b) (a ≡ b) (b < a) → MatchOrdering r (pos a <ℤ pos b) (pos a ≡ pos b) (pos b <ℤ pos a)
   at Less h = omega (arith, ints)
   at Equal h = ap pos h
@@ -25,15 +24,13 @@ keys_at xs ys i a b r lx ly ea eb h =
     let y : drop i ys ≡ get_or ys i (pos 0) ∷ drop (i + 1) ys = drop-cons ys i (pos 0) ly ∙ ap (λ j. get_or ys i (pos 0) ∷ drop j ys) (sym (add-one i)) in
     ap (λ l. key_order l (drop i ys)) x ∙ ap (key_order (get_or xs i (pos 0) ∷ drop (i + 1) xs)) y
     ∙ ap (λ v. ordering_then (int_cmp v (get_or ys i (pos 0))) rest) (sym ea) ∙ ap (λ v. ordering_then (int_cmp a v) rest) (sym eb)
-    ∙ ap (λ o. ordering_then o rest) (sym (int_cmp_total.says a b r h))
+    ∙ ap (λ o. ordering_then o rest) (sym (int_cmp_is a b r h))
 
 pub flip : (p q : GroupId) → order p q ≡ ordering_reverse (order q p)
-unfolding order
-flip p q = (lexical int_cmp_total).flip (numbers p) (numbers q)
+flip = order_total.antisymm
 
 pub trans : (p q r : GroupId) → order p q ≡ Less → order q r ≡ Less → order p r ≡ Less
-unfolding order
-trans p q r = (lexical int_cmp_total).trans (numbers p) (numbers q) (numbers r)
+trans = order_total.trans
 
 no_less : {X : Type 0} → Less ≡ Equal → X
 no_less e = let z : ◌≡◌ {A = ℕ} 0 1 = cc in absurd (omega arith)

@@ -1,13 +1,12 @@
 -- Cells in ascending order: what they are known by, and that sorting gives them. Assumes nothing.
 use Rattle.std.proofs.Common.{◌≡◌, ℕ, zero, suc, ◌+◌, ◌<◌, ◌≤◌, Bool, true, false, ◌⊎◌, List, [], ◌∷◌, map, length, get_or, Some, None, Ordering, Less, Equal, Greater, sym, refl, ap, ◌∙◌, subst, inl, inr, add-one, arith}
 use Rattle.std.specs.List.{ContainsAt as Has, AllByRecursion as All, swap}
-use Rattle.std.specs.List.Sorted.{IsPermutation, IsSortedWithin}
+use Rattle.std.specs.List.Sorted.{IsPermutation, IsSorted}
 use Rattle.std.specs.Ordering.{is_lt, ordering_reverse}
-use Rattle.std.specs.Cmp.{IsTotalOrder}
 use Rattle.std.proofs.lemmas.List.{get_or-map, length-map}
 use Rattle.std.proofs.lemmas.List.Edits.{length-swap, swapped_from_swap}
 use Rattle.std.proofs.ByRecursion.{All-weaker, All-get_or, has_get_or, has_shuffled}
-use Rattle.std.proofs.lemmas.List.Sorted.{IsPermutation-keeps, IsPermutation-sym, length_permutation}
+use Rattle.std.proofs.lemmas.List.Sorted.{IsPermutation-keeps, IsPermutation-sym}
 use Rattle.std.proofs.lemmas.Bool.{cases_lt, cases_eq}
 use Rattle.cells.specs.declared.id.GroupId.{GroupId}
 use Rattle.cells.specs.declared.cell.Cell.{Cell}
@@ -117,14 +116,14 @@ module _ {X V : Type 0} (cell : X → Cell V) where
     at (inr ge) = a j i (cell d) (omega (arith, ne)) (omega (arith, n)) (sym both)
 
   -- sorted, their cells are the groups in order
-  module _ (xs ys : List X) (a : Apart (map cell xs)) (sh : IsPermutation xs ys) (up : IsSortedWithin (λ x y. is_lt (order (cell x).id (cell y).id)) ys 0 (length xs)) where
+  module _ (xs ys : List X) (a : Apart (map cell xs)) (sh : IsPermutation xs ys) (up : IsSorted (λ x y. order (cell x).id (cell y).id) ys) where
     n : length (map cell ys) ≡ length ys
     n = length-map ys cell
 
     di : Distinct ys
     di = IsPermutation-keeps xs Distinct (distinct xs a) step ys sh
 
-    next : (l : List X) (k : ℕ) (d : Cell V) → suc k < length (map cell l) → Distinct l → IsSortedWithin (λ x y. is_lt (order (cell x).id (cell y).id)) l 0 (length l) → order (get_or (map cell l) k d).id (get_or (map cell l) (suc k) d).id ≡ Less
+    next : (l : List X) (k : ℕ) (d : Cell V) → suc k < length (map cell l) → Distinct l → IsSorted (λ x y. order (cell x).id (cell y).id) l → order (get_or (map cell l) k d).id (get_or (map cell l) (suc k) d).id ≡ Less
     next [] k d h di up = absurd (omega arith)
     next (s ∷ l) k d h di up =
         let m : length (map cell (s ∷ l)) ≡ length (s ∷ l) = length-map (s ∷ l) cell in
@@ -135,7 +134,7 @@ module _ {X V : Type 0} (cell : X → Cell V) where
         (before (cell (get_or (s ∷ l) k s)).id (cell (get_or (s ∷ l) (suc k) s)).id not_after (λ e. di k (suc k) s (omega arith) (omega arith) (λ z. omega (arith, z)) e)))
 
     sorted : Sorted (map cell ys)
-    sorted = sorted_next (map cell ys) (λ k d h. next ys k d h di (subst (λ m. IsSortedWithin (λ x y. is_lt (order (cell x).id (cell y).id)) ys 0 m) (sym (length_permutation xs ys sh)) up))
+    sorted = sorted_next (map cell ys) (λ k d h. next ys k d h di up)
 
     pub sorted_is : map cell ys ≡ in_order (map cell xs)
     sorted_is = sym (in_order_is (map cell xs) (map cell ys) a sorted have none) where
@@ -158,16 +157,6 @@ module _ {X V : Type 0} (cell : X → Cell V) where
             let hy : k < length ys = omega (arith, n) in
             let w = has_shuffled ys xs (get_or ys k s) (IsPermutation-sym xs ys sh) (has_get_or ys k s hy) in
             out w.0 d (omega (arith, w.1, length-map xs cell)) (ap (λ c. c.id) (get_or-map cell xs w.0 s d w.1 ∙ ap cell (w.2 s)) ∙ sym (id_at ys k d s hy) ∙ e)
-
-  -- the order by which things are sorted that hold a cell each
-  abbrev pub by_id : IsTotalOrder (λ (x y : X) (r : Ordering). r ≡ order (cell x).id (cell y).id)
-  by_id = record {
-    cmp = λ x y. order (cell x).id (cell y).id;
-    says = λ x y r h. h;
-    flip = λ x y. flip (cell x).id (cell y).id;
-    trans = λ x y z. trans (cell x).id (cell y).id (cell z).id;
-    alike = λ x y z e. ap (λ p. order p (cell z).id) (same (cell x).id (cell y).id e);
-  }
 
 -- ---- what sorted cells are
 

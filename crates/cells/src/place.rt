@@ -1,14 +1,13 @@
 // Where a group lies.
 ghost use Rattle.std.specs.Prelude.{◌≡◌, length, ◌==◌};
 ghost use Rattle.std.specs.declared.cmp.Ordering.{Ordering};
-ghost use Rattle.std.specs.List.Sorted.{IsPermutation, IsSortedWithin};
-ghost use Rattle.std.specs.Cmp.{IsTotalOrder};
-ghost use Rattle.std.specs.Ordering.{is_lt};
-ghost use Rattle.cells.specs.Order.{order};
-ghost use Rattle.cells.specs.Places.{with_next as next_put, with_head as head_put, with_cell as cell_put};
+ghost use Rattle.std.specs.List.Sorted.{IsPermutation, IsSorted};
+ghost use Rattle.std.specs.Cmp.{eq_by_cmp_equiv, on_total, partial_equiv_from_equiv};
 ghost use Rattle.std.specs.Cmp.Rules.{comparing};
-ghost use Rattle.std.proofs.Common.{rules};
-ghost use Rattle.std.specs.Cmp as Keys;
+ghost use Rattle.std.specs.Ordering.{as_partial_cmp, eq_by_cmp, on};
+ghost use Rattle.cells.specs.Order.{order, order_total};
+ghost use Rattle.std.proofs.Common.{refl};
+ghost use Rattle.cells.specs.Places.{with_next as next_put, with_head as head_put, with_cell as cell_put};
 
 use crate::cell::Cell;
 use std::cmp::Ordering;
@@ -78,7 +77,9 @@ pub fn is_full(used: usize, places: usize) -> bool
 }
 
 impl<V> PartialEq for Place<V> {
-    ghost laws = { Keys.partial_equiv_from_equiv (Prim.search (comparing, rules)) };
+    ghost eq = { eq_by_cmp (on (λ s. s.cell.id) order) };
+
+    ghost laws = { partial_equiv_from_equiv (eq_by_cmp_equiv (on_total (λ s. s.cell.id) order_total)) };
 
     fn eq(&self, other: &Place<V>) -> bool {
         self.cell.id.is(&other.cell.id)
@@ -86,11 +87,13 @@ impl<V> PartialEq for Place<V> {
 }
 
 impl<V> Eq for Place<V> {
-    ghost laws = { Prim.search (comparing, rules) };
+    ghost laws = { eq_by_cmp_equiv (on_total (λ s. s.cell.id) order_total) };
 }
 
 impl<V> PartialOrd for Place<V> {
-    ghost laws = { Prim.search (comparing, rules) };
+    ghost partial_cmp = { as_partial_cmp (on (λ s. s.cell.id) order) };
+
+    ghost laws = { Prim.search (comparing, order_total) };
 
     fn partial_cmp(&self, other: &Place<V>) -> Option<Ordering> {
         Some(self.cell.id.order(&other.cell.id))
@@ -98,13 +101,13 @@ impl<V> PartialOrd for Place<V> {
 }
 
 impl<V> Ord for Place<V> {
-    ghost cmp = { λ x y. order x.cell.id y.cell.id };
+    ghost cmp = { on (λ s. s.cell.id) order };
 
-    ghost total = { Prim.search (comparing, rules) };
+    ghost total = { on_total (λ s. s.cell.id) order_total };
 
-    ghost matches_partial_cmp = { Prim.search (comparing, rules) };
+    ghost matches_partial_cmp = { λ x y. refl };
 
-    ghost matches_eq = { Prim.search (comparing, rules) };
+    ghost matches_eq = { λ x y. refl };
 
     fn cmp(&self, other: &Place<V>) -> Ordering {
         self.cell.id.order(&other.cell.id)
@@ -114,7 +117,7 @@ impl<V> Ord for Place<V> {
 // Places in the order of their groups.
 pub fn sort_places<V>(places: &mut [Place<V>])
     ensures shuffled { IsPermutation places.old places.new }
-    ensures ascends { (o : IsTotalOrder (λ (x y : Place V) (r : Ordering). r ≡ order x.cell.id y.cell.id)) → IsSortedWithin (λ x y. is_lt ((λ (x y : Place V) (r : Ordering). r ≡ order x.cell.id y.cell.id) x y)) places.new 0 (length places.old) }
+    ensures ascends { IsSorted (on (λ s. s.cell.id) order) places.new }
 {
-    places.sort();
+    places.sort_unstable();
 }

@@ -1,6 +1,6 @@
 -- The live places sorted where they lie. Assumes nothing.
 use Rattle.std.proofs.Common.{◌≡◌, ℕ, suc, ◌<◌, ◌≤◌, true, List, ◌++◌, map, length, get_or, take, drop, Ordering, Less, Equal, Greater, sym, refl, ap, ◌∙◌, subst, arith}
-use Rattle.std.specs.List.Sorted.{IsPermutation, IsSortedWithin}
+use Rattle.std.specs.List.Sorted.{IsPermutation, IsSorted}
 use Rattle.std.specs.Ordering.{is_lt}
 use Rattle.std.proofs.lemmas.List.{take-map, drop-map, take_at, drop_at, length-take-le}
 use Rattle.std.proofs.lemmas.List.Sorted.{length_permutation}
@@ -24,17 +24,17 @@ module _ {V : Type 0} where
   sorted_from l a = sorted_next l (λ k d h. less _ (a k (suc k) d (omega arith) h))
 
   -- the live part sorted, in its place
-  module _ (xs ys : List (Place V)) (used m : ℕ) (same-m : m ≡ used) (within : used ≤ length xs) (a : Apart (live used xs)) (sh : IsPermutation (take m xs) ys) (up : IsSortedWithin (λ x y. is_lt (order x.cell.id y.cell.id)) ys 0 (length (take m xs))) where
+  module _ (xs ys : List (Place V)) (used m : ℕ) (same_m : m ≡ used) (within : used ≤ length xs) (a : Apart (live used xs)) (sh : IsPermutation (take m xs) ys) (up : IsSorted (λ x y. order x.cell.id y.cell.id) ys) where
     long : length ys ≡ used
-    long = length_permutation (take m xs) ys sh ∙ ap (λ k. length (take k xs)) same-m ∙ length-take-le used xs within
+    long = length_permutation (take m xs) ys sh ∙ ap (λ k. length (take k xs)) same_m ∙ length-take-le used xs within
 
     pub sort_live : live used (ys ++ drop m xs) ≡ in_order (live used xs)
     sort_live =
         let front : take m (cells_of xs) ≡ cells_of (take m xs) = take-map (λ s. s.cell) m xs in
-        let now : live used xs ≡ cells_of (take m xs) = ap (λ k. take k (cells_of xs)) (sym same-m) ∙ front in
+        let now : live used xs ≡ cells_of (take m xs) = ap (λ k. take k (cells_of xs)) (sym same_m) ∙ front in
         take-map (λ s. s.cell) used (ys ++ drop m xs) ∙ ap cells_of (take_at ys (drop m xs) used long)
         ∙ sorted_is (λ s. s.cell) (take m xs) ys (subst Apart now a) sh up
         ∙ ap in_order (sym now)
 
     pub sort_rest : drop used (cells_of (ys ++ drop m xs)) ≡ drop used (cells_of xs)
-    sort_rest = drop-map (λ s. s.cell) used (ys ++ drop m xs) ∙ ap cells_of (drop_at ys (drop m xs) used long ∙ ap (λ k. drop k xs) same-m) ∙ sym (drop-map (λ s. s.cell) used xs)
+    sort_rest = drop-map (λ s. s.cell) used (ys ++ drop m xs) ∙ ap cells_of (drop_at ys (drop m xs) used long ∙ ap (λ k. drop k xs) same_m) ∙ sym (drop-map (λ s. s.cell) used xs)

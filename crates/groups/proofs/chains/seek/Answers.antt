@@ -16,7 +16,7 @@ loop-i-init g c =
     walk_link (cells_of xs) (length xs) c.args.used c.args.id.now (omega (arith, c.requires.within, length_cells xs)) c.args.used c.bucket-b.result _ (omega arith) c.bucket-b.ensures.value l (λ k d p q e. absurd (omega arith))
 
 -- the link of the cell here
-link : (g : given.Over) (c : goal.After-row-known-in-loop-i·1 g) → Link (buckets (length c.args.places.now) (cells_of c.args.places.now)) (c.loop-i.at - 1) (get_or (buckets (length c.args.places.now) (cells_of c.args.places.now)) (c.loop-i.at - 1) 0) (get_or c.args.places.now (c.loop-i.at - 1) c.index-places-i-in-loop-i.result).next
+link : (g : given.Over) (c : goal.After-row_known-in-loop-i-1 g) → Link (buckets (length c.args.places.now) (cells_of c.args.places.now)) (c.loop-i.at - 1) (get_or (buckets (length c.args.places.now) (cells_of c.args.places.now)) (c.loop-i.at - 1) 0) (get_or c.args.places.now (c.loop-i.at - 1) c.index-places-i-in-loop-i.result).next
 link g c =
     let xs = c.args.places.now in
     let i = c.loop-i.at - 1 in

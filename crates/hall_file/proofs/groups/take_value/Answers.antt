@@ -19,12 +19,12 @@ pub returns-then-possible : goal.returns-then-possible
 returns-then-possible g c =
     let m = g.M.Measure.meaning c.args.measure.now in
     let h = c.in_ok-word.ensures.cases in
-    value_some m c.args.rows c.args.bytes.now c.in_ok-word.word.now c.in_ok-word.rest.now c.in_ok-value.value c.in_ok-value.ensures c.if_possible.ensures
+    value_some m c.args.rows c.args.bytes.now c.in_ok-word.word.now c.in_ok-word.rest.now c.in_ok-value.value c.in_ok-value.ensures c.if-possible.ensures
     ∙ value_at m c.args.rows c.args.bytes.now c.in_ok-word.word.now c.in_ok-word.rest.now h.0 h.1 h.2 (λ i. (c.type_inv.bytes i).fits)
 
 pub returns-else-possible : goal.returns-else-possible
 returns-else-possible g c =
     let m = g.M.Measure.meaning c.args.measure.now in
     let h = c.in_ok-word.ensures.cases in
-    value_not m c.args.rows c.args.bytes.now c.in_ok-word.word.now c.in_ok-word.rest.now c.in_ok-value.value c.in_ok-value.ensures c.if_possible.ensures
+    value_not m c.args.rows c.args.bytes.now c.in_ok-word.word.now c.in_ok-word.rest.now c.in_ok-value.value c.in_ok-value.ensures c.if-possible.ensures
     ∙ value_at m c.args.rows c.args.bytes.now c.in_ok-word.word.now c.in_ok-word.rest.now h.0 h.1 h.2 (λ i. (c.type_inv.bytes i).fits)

@@ -3,16 +3,16 @@ use Rattle.std.proofs.Common.{◌≡◌, ℕ, ◌+◌, ◌*◌, ◌<◌, ◌≤�
 use Rattle.std.proofs.lemmas.Bool.{both_ways, and_parts, and_from, le-leb, leb-true, eq-eqb, eqb-true}
 use Rattle.hall_file.proofs.Heads.{HeadAt, head_no, head_yes, rows_at}
 use Rattle.hall_file.proofs.head.take_head.Goals as goal
-use Rattle.hall_file.proofs.head.take_head.Goals.{in_default-via-then-bytes-lt11, in_default-via-else-bytes-lt11+in-84·+in-76·+in_default·, in_default-via-else-bytes-lt11+in-84·+in_default·, in_default-via-else-bytes-lt11+in_default·}
+use Rattle.hall_file.proofs.head.take_head.Goals.{in_default-via-then-bytes-lt11, in_default-via-else-bytes-lt11+in-84+in-76+in_default-1, in_default-via-else-bytes-lt11+in-84+in_default-1, in_default-via-else-bytes-lt11+in_default-1}
 
 pub returns-in_default : goal.returns-in_default
 returns-in_default c =
     head_no c.args.bytes.now (λ h.
     elim c.in_default.branch [
       | in_default-via-then-bytes-lt11 w ↦ omega (arith, ltb-true)
-      | in_default-via-else-bytes-lt11+in-84·+in-76·+in_default· w ↦ omega (arith, ltb-true)
-      | in_default-via-else-bytes-lt11+in-84·+in_default· w ↦ omega (arith, ltb-true)
-      | in_default-via-else-bytes-lt11+in_default· w ↦ omega (arith, ltb-true)
+      | in_default-via-else-bytes-lt11+in-84+in-76+in_default-1 w ↦ omega (arith, ltb-true)
+      | in_default-via-else-bytes-lt11+in-84+in_default-1 w ↦ omega (arith, ltb-true)
+      | in_default-via-else-bytes-lt11+in_default-1 w ↦ omega (arith, ltb-true)
     ])
 
 pub returns-then-not-is_version : goal.returns-then-not-is_version

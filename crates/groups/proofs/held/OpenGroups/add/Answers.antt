@@ -31,20 +31,20 @@ pub invariant_of-self : goal.invariant_of-self
 invariant_of-self g c =
     let o = c.args.self.now in
     let n : length c.put.new.places ≡ o.places.len = omega (arith, c.put.auto.places, c.as_mut_slice.ensures.len) in
-    (o.few, (∣ (moved (g.M.Measure.meaning c.args.measure.now).join c.args.new o.places c.as_mut_slice.result.now c.put.new.places o.used Grown c.as_mut_slice.ensures.value n c.in-Grown.ensures).0.linked ∣₁, tt))
+    record { few = o.few; kept = ∣ (moved (g.M.Measure.meaning c.args.measure.now).join c.args.new o.places c.as_mut_slice.result.now c.put.new.places o.used Grown c.as_mut_slice.ensures.value n c.in-Grown.ensures).0.linked ∣₁ }
 
 pub invariant_of-self-in-Begun : goal.invariant_of-self-in-Begun
 invariant_of-self-in-Begun g c =
     let o = c.args.self.now in
     let n : length c.put.new.places ≡ o.places.len = omega (arith, c.put.auto.places, c.as_mut_slice.ensures.len) in
-    (o.few, (∣ (moved (g.M.Measure.meaning c.args.measure.now).join c.args.new o.places c.as_mut_slice.result.now c.put.new.places o.used Begun c.as_mut_slice.ensures.value n c.in-Begun.ensures).0.linked ∣₁, tt))
+    record { few = o.few; kept = ∣ (moved (g.M.Measure.meaning c.args.measure.now).join c.args.new o.places c.as_mut_slice.result.now c.put.new.places o.used Begun c.as_mut_slice.ensures.value n c.in-Begun.ensures).0.linked ∣₁ }
 
 pub invariant_of-self-in-NoRoom : goal.invariant_of-self-in-NoRoom
 invariant_of-self-in-NoRoom g c =
     let o = c.args.self.now in
     let n : length c.put.new.places ≡ o.places.len = omega (arith, c.put.auto.places, c.as_mut_slice.ensures.len) in
     let same = (moved (g.M.Measure.meaning c.args.measure.now).join c.args.new o.places c.as_mut_slice.result.now c.put.new.places o.used NoRoom c.as_mut_slice.ensures.value n c.in-NoRoom.ensures).0 in
-    (o.few, (subst (λ l. ∥ Linked l o.used ∥₁) (sym same) o.kept, tt))
+    record { few = o.few; kept = subst (λ l. ∥ Linked l o.used ∥₁) (sym same) o.kept }
 
 pub returns-in-Grown : goal.returns-in-Grown
 returns-in-Grown g c =

@@ -28,7 +28,7 @@ invariant_of-result g c =
       within = omega (arith, k.chained.within, ap length c.as_mut_slice.ensures.value, c.as_mut_slice.ensures.len);
       ascending = subst Ascending (sym is) (ascending_from _ (sorted_in_order (live u xs)));
     } in
-    (c.args.self.few, (∣ subst (λ l. Ordered l u) (sym (with_items_is c.args.self.places ys n)) s ∣₁, tt))
+    record { few = c.args.self.few; kept = ∣ subst (λ l. Ordered l u) (sym (with_items_is c.args.self.places ys n)) s ∣₁ }
 
 pub returns : goal.returns
 returns g c =

@@ -10,7 +10,7 @@ invariant_of-result g c =
     let ys = c.clear.new.places in
     let n : length ys ≡ c.args.places.len = omega (arith, c.clear.auto.places, c.as_mut_slice.ensures.len) in
     let s : Linked ys 0 = record { chained = c.clear.ensures.chained; apart = λ i j d p q e. omega arith } in
-    (omega arith, (∣ subst (λ l. Linked l 0) (sym (with_items_is c.args.places ys n)) s ∣₁, tt))
+    record { few = omega arith; kept = ∣ subst (λ l. Linked l 0) (sym (with_items_is c.args.places ys n)) s ∣₁ }
 
 pub returns : goal.returns
 returns g c =

@@ -21,7 +21,7 @@ invariant_of-result g c =
     let n : length ys ≡ c.args.self.places.len = omega (arith, c.relink.auto.places, c.as_mut_slice.ensures.len) in
     let is : live u ys ≡ live u (vec_items c.args.self.places) = ap (take u) (c.relink.ensures.cells ∙ ap cells_of c.as_mut_slice.ensures.value) in
     let s : Linked ys u = record { chained = c.relink.ensures.chained; apart = subst Apart (sym is) (sorted_apart _ (sorted_from _ k.ascending)) } in
-    (c.args.self.few, (∣ subst (λ l. Linked l u) (sym (with_items_is c.args.self.places ys n)) s ∣₁, tt))
+    record { few = c.args.self.few; kept = ∣ subst (λ l. Linked l u) (sym (with_items_is c.args.self.places ys n)) s ∣₁ }
 
 pub returns : goal.returns
 returns g c =
