@@ -1,4 +1,5 @@
 // The games of one player, from a sheet of all games.
+use anyhow::anyhow;
 use feeds::fault::Layer;
 use feeds::feed::Feed;
 use feeds::section::Section;
@@ -48,8 +49,8 @@ fn layer_name(layer: Layer) -> &'static str {
 // A refusal that ends the account: the texts here are written so that none comes.
 pub(crate) fn unforeseen(refusal: Refusal) -> anyhow::Error {
     match refusal {
-        Refusal::FeedRange => "a feed was asked for that cannot be".into(),
-        _ => "a part of the account was refused".into(),
+        Refusal::FeedRange => anyhow!("a feed was asked for that cannot be"),
+        _ => anyhow!("a part of the account was refused"),
     }
 }
 
