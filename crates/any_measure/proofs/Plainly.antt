@@ -1,5 +1,5 @@
 -- The five kinds answer the plain aggregates. Assumes nothing.
-use Rattle.std.proofs.Common.{◌≡◌, ℕ, zero, suc, ◌+◌, ◌*◌, ◌≤◌, true, false, cond, ◌⊎◌, List, [], ◌∷◌, ◌++◌, length, ℤ, pos, ◌+ℤ◌, nat_abs, ◌≤ℤ◌, Some, None, fold, Option, sym, refl, ap, ◌∙◌, subst, inl, inr, ⊎_elim, append_assoc, append-nil, arith, length-append, w64, SFits}
+use Rattle.std.proofs.Common.{◌≡◌, ℕ, zero, suc, ◌*◌, ◌≤◌, true, false, cond, ◌⊎◌, List, [], ◌∷◌, ◌++◌, length, ℤ, pos, ◌+ℤ◌, nat_abs, ◌≤ℤ◌, Some, None, fold, Option, sym, refl, ap, ◌∙◌, subst, inl, inr, ⊎_elim, append_assoc, append-nil, arith, length-append}
 use lib.Signed.{lt_z}
 use borrow.Author.Differences.{ints}
 use Rattle.std.proofs.lemmas.Bool.{eqb-true, leb-true, and_parts}
@@ -8,12 +8,12 @@ use Rattle.std.proofs.lemmas.Int.{clamps}
 use Rattle.std.specs.Int.{int_min, int_max}
 use Rattle.std.specs.List.{ContainsAt as Has, AllByRecursion as All}
 use Rattle.measures.specs.declared.answer.Answer.{Answer}
-use Rattle.measures.specs.declared.answer.Answer.TheVariants.{Number, Mean, NoRows}
+use Rattle.measures.specs.declared.answer.Answer.TheVariants.{Number, NoRows}
 use Rattle.any_measure.specs.declared.any.AnyMeasure.{AnyMeasure}
 use Rattle.any_measure.specs.declared.any.AnyMeasure.TheVariants.{Count as Counts, Sum as Sums, Least as Leasts, Greatest as Greatests, Mean as Means}
 use Rattle.any_measure.specs.declared.any.AnyValue.TheVariants.{Rows, Total, Extreme}
 use Rattle.measures.specs.Values.{RowValue, greatest_value, most_rows}
-use Rattle.measures.specs.Meaning.{Meaning, Possible}
+use Rattle.measures.specs.Meaning.{Meaning}
 use Rattle.measures.specs.Kinds.{count, counted, sum, mean, mean_of, total, adding, extreme, least, greatest, better, extreme_answer}
 use Rattle.any_measure.specs.Lifted.{lifted}
 use Rattle.any_measure.specs.Chosen.{chosen, rows_in, total_in, extreme_in}

@@ -1,5 +1,5 @@
 -- The plain aggregates of a list of whole numbers, said without any join. Assumes nothing.
-use Rattle.std.specs.Prelude.{ℕ, Bool, cond, ◌&&◌, List, [], ◌∷◌, length, ℤ, pos, ◌+ℤ◌, ◌≤ℤ◌, Some, None, fold, Option, nat_le}
+use Rattle.std.specs.Prelude.{Bool, cond, ◌&&◌, List, [], ◌∷◌, length, ℤ, pos, ◌+ℤ◌, ◌≤ℤ◌, Some, None, fold, Option, nat_le}
 use Rattle.std.specs.Int.{int_min, int_max}
 use Rattle.std.specs.List.{ContainsAt as Has, AllByRecursion as All}
 use Rattle.measures.specs.Values.{all_row_values, most_rows}

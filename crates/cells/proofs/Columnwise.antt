@@ -1,17 +1,15 @@
 -- The one list of groups, column by column. Assumes nothing.
-use Rattle.std.proofs.Common.{◌≡◌, ℕ, zero, suc, ◌+◌, ◌<◌, ◌≤◌, Bool, true, false, cond, eqb, List, [], ◌∷◌, ◌++◌, map, Ordering, Less, Equal, Greater, sym, refl, ap, ◌∙◌, subst, arith}
+use Rattle.std.proofs.Common.{◌≡◌, ℕ, zero, suc, ◌+◌, ◌<◌, ◌≤◌, Bool, true, false, cond, eqb, List, [], ◌∷◌, ◌++◌, map, Ordering, Less, Equal, Greater, sym, refl, ap, ◌∙◌, arith}
 use Rattle.std.specs.List.{AllByRecursion as All}
-use Rattle.std.specs.Ordering.{ordering_then}
 use Rattle.std.proofs.ByRecursion.{All-weaker}
 use Rattle.std.proofs.lemmas.Bool.{eq-eqb, eqb-true, eqb-false}
-use Rattle.cells.specs.declared.id.GroupId.{GroupId}
 use Rattle.cells.specs.declared.cell.Cell.{Cell}
 use Rattle.cells.specs.Order.{order, key_order}
 use Rattle.cells.specs.Listed.{among}
 use Rattle.cells.specs.Groups.{Sorted, grown, put}
 use Rattle.cells.specs.Columns.{Group, group, cell_of, joined, put_group, column, columns, flat}
 use Rattle.cells.proofs.Ordered.{same, trans, same_column, column_rises}
-use Rattle.cells.proofs.Lookups.{put_head, sorted_put}
+use Rattle.cells.proofs.Lookups.{put_head}
 
 differs : (a b : ℕ) → (a ≡ b → ⊥) → eqb a b ≡ false
 differs a b ne = at (eqb a b) refl where

@@ -1,5 +1,5 @@
 -- What contributions come to, whatever their order. Assumes nothing.
-use Rattle.std.proofs.Common.{◌≡◌, ℕ, ◌+◌, ◌-◌, ◌^◌, ◌<◌, ◌≤◌, min, Bool, true, false, cond, not, eqb, ◌⊎◌, List, [], ◌∷◌, length, get_or, drop, is_some, Some, None, Decides, Option, Ordering, Less, Equal, Greater, sym, refl, ap, ◌∙◌, subst, inl, inr, true≢false, arith}
+use Rattle.std.proofs.Common.{◌≡◌, ℕ, ◌+◌, ◌<◌, ◌≤◌, Bool, true, false, cond, not, eqb, ◌⊎◌, List, [], ◌∷◌, length, get_or, drop, is_some, Some, Decides, Ordering, Less, Equal, Greater, sym, refl, ap, ◌∙◌, subst, inl, inr, true≢false, arith}
 use Rattle.std.specs.List.{AllByRecursion as All}
 use Rattle.std.proofs.lemmas.List.{at_drop_more}
 use Rattle.std.proofs.ByRecursion.{all_from_every}
@@ -10,7 +10,7 @@ use Rattle.cells.specs.declared.id.GroupId.{GroupId}
 use Rattle.cells.specs.declared.cell.Cell.{Cell}
 use Rattle.cells.specs.Order.{order}
 use Rattle.cells.specs.Listed.{among, same_group, listed}
-use Rattle.cells.specs.Groups.{together, grown, put, lookup, added, in_order, Apart, Sorted}
+use Rattle.cells.specs.Groups.{together, put, lookup, added, in_order, Apart, Sorted}
 use Rattle.cells.specs.Contributions.{Reordered, empty, keep, swap, chain, there, begins, beginning, ids, came_for, came_in, rows_of, heard_on, heard, join_of, total, Proper, Fair, Law}
 use Rattle.cells.proofs.Ordered.{same, itself, alike}
 use Rattle.cells.proofs.Lookups.{look_head, put_head, lookup_put_same, lookup_put_other, sorted_put, sorted_ext}

@@ -1,15 +1,13 @@
 -- Cells that lie in any order, as groups in order: what one more, or one grown, gives. Assumes nothing.
-use Rattle.std.proofs.Common.{◌≡◌, ℕ, zero, suc, ◌+◌, ◌<◌, ◌≤◌, ◌≢◌, ◌⊎◌, List, [], ◌∷◌, ◌++◌, length, get_or, set, Some, None, Option, Ordering, Less, Equal, Greater, sym, refl, ap, ◌∙◌, subst, inl, inr, arith}
-use Rattle.std.specs.List.{ContainsAt as Has, AllByRecursion as All}
-use Rattle.std.proofs.lemmas.List.{length-set, length_push, get_or_push, get_or_append_left, get_or-set_same, get_or-set_other, get_or_default}
+use Rattle.std.proofs.Common.{◌≡◌, ℕ, zero, suc, ◌+◌, ◌<◌, ◌≤◌, ◌≢◌, ◌⊎◌, List, [], ◌∷◌, ◌++◌, length, get_or, set, Some, None, Ordering, Less, Equal, Greater, sym, refl, ap, ◌∙◌, subst, inl, inr, arith}
+use Rattle.std.proofs.lemmas.List.{length-set, length_push, get_or_push, get_or_append_left, get_or-set_same, get_or-set_other}
 use Rattle.std.proofs.lemmas.Bool.{cases_lt, cases_eq}
 use Rattle.cells.specs.declared.id.GroupId.{GroupId}
 use Rattle.cells.specs.declared.cell.Cell.{Cell}
 use Rattle.cells.specs.Order.{order}
-use Rattle.cells.specs.Listed.{among}
 use Rattle.cells.specs.Groups.{Sorted, put, grown, lookup, added, in_order, Apart, Absent}
 use Rattle.cells.proofs.Ordered.{same, itself}
-use Rattle.cells.proofs.Lookups.{sorted_ext, sorted_put, lookup_put_same, lookup_put_other, look_head}
+use Rattle.cells.proofs.Lookups.{sorted_ext, sorted_put, lookup_put_same, lookup_put_other}
 
 module _ {V : Type 0} where
   pub sorted_in_order : (cs : List (Cell V)) → Sorted (in_order cs)

@@ -1,5 +1,5 @@
 -- A sorted list is known by its look-ups, and putting changes one of them. Assumes nothing.
-use Rattle.std.proofs.Common.{◌≡◌, ℕ, ◌+◌, List, [], ◌∷◌, Some, None, Option, Ordering, Less, Equal, Greater, sym, refl, ap, ◌∙◌, subst, arith}
+use Rattle.std.proofs.Common.{◌≡◌, ℕ, List, [], ◌∷◌, Some, None, Option, Ordering, Less, Equal, Greater, sym, refl, ap, ◌∙◌, subst, arith}
 use Rattle.std.specs.List.{AllByRecursion as All}
 use Rattle.std.proofs.ByRecursion.{All-weaker}
 use Rattle.cells.specs.declared.id.GroupId.{GroupId}
@@ -7,7 +7,7 @@ use Rattle.cells.specs.declared.cell.Cell.{Cell}
 use Rattle.cells.specs.Order.{order}
 use Rattle.cells.specs.Listed.{among}
 use Rattle.cells.specs.Groups.{Sorted, put, grown, lookup, added}
-use Rattle.cells.proofs.Ordered.{same, itself, trans, less_greater, greater_less}
+use Rattle.cells.proofs.Ordered.{same, itself, trans, greater_less}
 
 never : {X A : Type 0} {x : A} → None ≡ Some x → X
 never e = let z : ◌≡◌ {A = ℕ} 0 1 = cc in absurd (omega arith)

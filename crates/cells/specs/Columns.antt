@@ -1,6 +1,5 @@
 -- The groups of each column, and how they lie in one list. Assumes nothing.
-use Rattle.std.specs.Prelude.{ℕ, zero, suc, Bool, true, false, cond, List, [], ◌∷◌, ◌++◌, map, ℤ, ◌==◌}
-use Rattle.cells.specs.declared.id.GroupId.{GroupId}
+use Rattle.std.specs.Prelude.{ℕ, zero, suc, cond, List, [], ◌∷◌, ◌++◌, map, ℤ, ◌==◌}
 use Rattle.cells.specs.declared.cell.Cell.{Cell}
 use Rattle.cells.specs.Order.{key_order}
 use Rattle.cells.specs.Listed.{among}

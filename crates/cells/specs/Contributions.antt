@@ -1,5 +1,5 @@
 -- What a list of contributions comes to, and the laws of that. Assumes nothing.
-use Rattle.std.specs.Prelude.{◌≡◌, ℕ, ◌+◌, ◌≤◌, Bool, true, false, cond, not, List, [], ◌∷◌, length, is_some, Some, None, filter, Option, nat_eq}
+use Rattle.std.specs.Prelude.{◌≡◌, ℕ, ◌+◌, ◌≤◌, Bool, false, cond, not, List, [], ◌∷◌, is_some, Some, None, filter, Option, nat_eq}
 use Rattle.std.specs.List.{AllByRecursion as All}
 use Rattle.measures.specs.Values.{most_rows}
 use Rattle.measures.specs.Meaning.{Meaning, Possible}

@@ -4,7 +4,7 @@ use Rattle.std.proofs.lemmas.Bool.{eq-eqb}
 use Rattle.conditions.specs.Trees.{Tree, compare, denial, bracketed, both, either, reads, operand_reads}
 use Rattle.conditions.specs.Meaning.{moved, amount, compares, meets}
 use Rattle.conditions.specs.Keys.{key, spread}
-use Rattle.conditions.specs.Theorems.{Covers, DependsOnItsKey, KeyDecides}
+use Rattle.conditions.specs.Theorems.{DependsOnItsKey, KeyDecides}
 use Rattle.conditions.specs.declared.condition.Operand.{Operand}
 use Rattle.conditions.specs.declared.condition.Operand.TheVariants.{Number, Row, Base}
 use Rattle.conditions.proofs.Spreading.{spread_key}

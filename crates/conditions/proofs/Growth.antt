@@ -1,11 +1,10 @@
 -- How the trees of a condition grow step by step, and that there is room for each step. Assumes nothing.
-use Rattle.std.proofs.Common.{◌≡◌, ℕ, ◌+◌, ◌-◌, ◌*◌, ◌<◌, ◌≤◌, List, [], ◌∷◌, length, sym, refl, ap, ◌∙◌, arith}
+use Rattle.std.proofs.Common.{◌≡◌, ℕ, ◌+◌, ◌-◌, ◌<◌, ◌≤◌, List, ◌∷◌, length, sym, ap, ◌∙◌, arith}
 use Rattle.conditions.specs.Trees.{Tree, compare, denial, bracketed, both, either}
 use Rattle.conditions.specs.Postfix.{trees, tree, topmost, grow}
 use Rattle.conditions.specs.Promises.{Room, Grown, On}
 use Rattle.conditions.specs.declared.condition.Comparison.{Comparison}
 use Rattle.conditions.specs.declared.condition.Condition.{Condition}
-use Rattle.conditions.specs.declared.condition.Step.{Step}
 use Rattle.conditions.specs.declared.condition.Step.TheVariants.{Compare, Not, Bracket, And, Or}
 use Rattle.conditions.specs.declared.reader.Reader.{Reader}
 

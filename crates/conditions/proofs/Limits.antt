@@ -1,21 +1,19 @@
 -- What is accepted keeps the limits. Assumes nothing.
-use Rattle.std.proofs.Common.{◌≡◌, ℕ, ◌+◌, ◌-◌, ◌<◌, ◌≤◌, Bool, true, false, cond, ltb, List, [], ◌∷◌, get_or, set, ℤ, pos, negsuc, Some, None, Option, sym, refl, ap, ◌∙◌, subst, arith}
+use Rattle.std.proofs.Common.{◌≡◌, ℕ, ◌+◌, ◌-◌, ◌<◌, ◌≤◌, Bool, true, false, cond, ltb, List, [], ◌∷◌, get_or, set, Some, None, Option, refl, subst, arith}
 use Rattle.std.proofs.lemmas.Bool.{ltb-true}
 use Rattle.words.specs.Lexemes.{Lexeme, name, reserved, number, sign, shift, bracket, other, feed, cut}
 use Rattle.words.specs.Spots.{Spot, past}
-use Rattle.conditions.specs.Trees.{Tree, compare, denial, bracketed, both, either, Within, comparisons, reads, operand_reads}
-use Rattle.conditions.specs.Machine.{form, limit, unknown, refusal, Seen, Names, Prefix, deny, along, Level, Place, denials, brackets, deep, Side, left, right, State, term, operand, field, by, compared, after, Move, go, stop, done, settle, settled, joined, arrived, onward, step, run, found, begin, first, counted, opens, follows, deeper, denied, inside, note, noted, at_sign, at_by, at_field, close, finish, shifted, shift_of, opening, joining, Outcome, refused, accepted}
+use Rattle.conditions.specs.Trees.{Tree, compare, denial, bracketed, both, Within, comparisons}
+use Rattle.conditions.specs.Machine.{limit, refusal, Seen, Names, Prefix, deny, along, Level, Place, denials, brackets, deep, Side, left, right, State, term, operand, field, by, compared, after, Move, go, stop, done, settle, joined, arrived, onward, step, run, found, begin, first, counted, opens, follows, deeper, denied, inside, note, at_sign, at_by, at_field, shifted, shift_of, opening, joining, Outcome, refused, accepted}
 use Rattle.conditions.specs.Promises.{opened, unread, condition_of}
-use Rattle.words.specs.declared.signs.Sign.{Sign}
 use Rattle.conditions.specs.declared.reader.Opening.{Opening}
 use Rattle.conditions.specs.declared.reader.Opening.TheVariants.{Denial, Bracket, Plain}
 use Rattle.conditions.specs.declared.reader.Joining.{Joining}
 use Rattle.conditions.specs.declared.reader.Joining.TheVariants.{And, Or, Close, End, Nothing}
 use Rattle.conditions.specs.declared.condition.Shift.{Shift}
 use Rattle.conditions.specs.declared.condition.Shift.TheVariants.{Bare}
-use Rattle.conditions.specs.declared.condition.Comparison.{Comparison}
 use Rattle.conditions.specs.declared.condition.Operand.{Operand}
-use Rattle.conditions.specs.declared.condition.Operand.TheVariants.{Number, Row, Base}
+use Rattle.conditions.specs.declared.condition.Operand.TheVariants.{Number, Row}
 use Rattle.conditions.specs.declared.condition.Found.{Found}
 use Rattle.conditions.specs.declared.condition.Found.TheVariants.{Value, RowField, BaseField, Unknown, NoOperand}
 

@@ -1,22 +1,20 @@
 -- How the words still to come go on, one word at a time. Assumes nothing.
-use Rattle.std.proofs.Common.{◌≡◌, ℕ, ◌+◌, ◌<◌, ◌≤◌, Bool, true, false, cond, ltb, List, [], ◌∷◌, length, get_or, set, ℤ, is_some, Some, None, Ok, Err, Option, Result, sym, refl, ap, ◌∙◌, subst, arith, Bor}
-use Rattle.std.proofs.lemmas.Bool.{true≢false, cond-true, cond-false, lt-ltb, le-ltb, ltb-true, ltb-false}
+use Rattle.std.proofs.Common.{◌≡◌, ℕ, ◌+◌, ◌<◌, ◌≤◌, Bool, true, false, ltb, List, [], ◌∷◌, length, get_or, set, ℤ, is_some, Some, None, Err, Option, Result, sym, refl, ap, ◌∙◌, subst, arith, Bor}
+use Rattle.std.proofs.lemmas.Bool.{true≢false, cond-true, cond-false, lt-ltb, le-ltb}
 use Rattle.text.specs.declared.refusal.Refusal.{Refusal}
 use Rattle.words.specs.Lexemes.{Lexeme, name, reserved, number, sign, shift, bracket, other, feed, cut, seen}
 use Rattle.words.specs.Spots.{Spot, past}
 use Rattle.words.specs.Cutting.{next, later, to_come, here}
 use Rattle.words.specs.declared.signs.Sign.{Sign}
-use Rattle.words.specs.declared.tokens.Keyword.{Keyword}
 use Rattle.words.specs.declared.tokens.Token.{Token}
 use Rattle.words.specs.declared.tokens.Token.TheVariants as token
 use Rattle.conditions.specs.Trees.{Tree, bracketed}
-use Rattle.conditions.specs.Machine.{Fault, form, limit, unknown, refusal, Seen, Names, Prefix, deny, along, Level, Place, Side, left, right, State, term, operand, field, by, compared, after, Move, go, stop, done, settle, settled, joined, arrived, onward, step, run, found, begin, first, opens, follows, deeper, denied, inside, deep, note, noted, opening, joining, shift_of, Outcome, refused, accepted}
-use Rattle.conditions.specs.Promises.{seen_by, pick, rest, onto, Leads, On, Counts, opened, NoAnd, NoOr, outcome, reading}
+use Rattle.conditions.specs.Machine.{Fault, form, limit, unknown, refusal, Seen, Names, Prefix, deny, along, Level, Place, Side, left, right, State, term, operand, field, by, compared, after, Move, go, stop, done, settle, joined, arrived, onward, step, run, found, begin, first, opens, follows, deeper, denied, inside, deep, note, noted, opening, joining, Outcome, refused, accepted}
+use Rattle.conditions.specs.Promises.{seen_by, pick, rest, onto, Leads, On, Counts, opened, NoAnd, NoOr}
 use Rattle.conditions.specs.declared.condition.Operand.{Operand}
 use Rattle.conditions.specs.declared.condition.Operand.TheVariants.{Number, Row, Base}
 use Rattle.conditions.specs.declared.condition.Shift.{Shift}
 use Rattle.conditions.specs.declared.condition.Shift.TheVariants.{Bare}
-use Rattle.conditions.specs.declared.condition.Condition.{Condition}
 use Rattle.conditions.specs.declared.condition.Found.{Found}
 use Rattle.conditions.specs.declared.condition.Found.TheVariants.{Value, RowField, BaseField, Unknown, NoOperand}
 use Rattle.conditions.specs.declared.reader.Opening.{Opening}

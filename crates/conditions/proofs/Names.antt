@@ -1,5 +1,5 @@
 -- The fields that names give. Assumes nothing.
-use Rattle.std.proofs.Common.{◌≡◌, ℕ, ◌+◌, ◌<◌, List, length, Some, None, Option, refl, arith}
+use Rattle.std.proofs.Common.{◌≡◌, ℕ, ◌<◌, List, Some, None, Option, arith}
 use Rattle.words.specs.Tables.{texts, place}
 use Rattle.words.proofs.Tabling.{few_texts, place_below}
 use Rattle.conditions.specs.Promises.{looks, named}

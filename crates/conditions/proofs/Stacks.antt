@@ -1,7 +1,7 @@
 -- What steps leave on a stack. Assumes nothing.
-use Rattle.std.proofs.Common.{◌≡◌, ℕ, ◌+◌, ◌-◌, ◌<◌, ◌≤◌, min, Bool, true, false, not, ◌&&◌, ◌||◌, List, [], ◌∷◌, ◌++◌, map, reverse, length, get_or, take, set, ℤ, sym, refl, ap, ◌∙◌, arith}
+use Rattle.std.proofs.Common.{◌≡◌, ℕ, ◌+◌, ◌-◌, ◌<◌, ◌≤◌, min, Bool, false, not, ◌&&◌, ◌||◌, List, [], ◌∷◌, ◌++◌, map, reverse, length, get_or, take, set, ℤ, sym, refl, ap, ◌∙◌, arith}
 use Rattle.std.proofs.lemmas.List.{take_more, take_more_set, reverse-append, length-reverse, length-take}
-use Rattle.conditions.specs.Trees.{Tree, compare, denial, bracketed, both, either}
+use Rattle.conditions.specs.Trees.{Tree}
 use Rattle.conditions.specs.Postfix.{works, grow, asked}
 use Rattle.conditions.specs.Meaning.{meets, judge, verdict, says}
 use Rattle.conditions.specs.declared.condition.Step.{Step}

@@ -18,7 +18,6 @@ use Rattle.conditions.specs.declared.condition.Shift.{Shift}
 use Rattle.conditions.specs.declared.condition.Shift.TheVariants.{Bare, Plus, Minus}
 use Rattle.conditions.specs.declared.condition.Operand.{Operand}
 use Rattle.conditions.specs.declared.condition.Operand.TheVariants.{Number, Row, Base}
-use Rattle.conditions.specs.declared.condition.Comparison.{Comparison}
 use Rattle.conditions.specs.declared.condition.Found.{Found}
 use Rattle.conditions.specs.declared.condition.Found.TheVariants.{Value, RowField, BaseField, Unknown, NoOperand}
 use Rattle.conditions.specs.Trees.{Tree, compare, denial, bracketed, both, either}

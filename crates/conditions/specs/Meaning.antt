@@ -1,5 +1,5 @@
 -- What a condition says of a row and a base row. Assumes nothing.
-use Rattle.std.specs.Prelude.{ℕ, Bool, true, false, not, ◌&&◌, ◌||◌, List, [], ◌∷◌, reverse, take, ℤ, pos, ◌+ℤ◌, ◌-ℤ◌, Some, None, Option, int_le, int_lt, slice_index_or}
+use Rattle.std.specs.Prelude.{Bool, true, not, ◌&&◌, ◌||◌, List, [], ◌∷◌, reverse, take, ℤ, pos, ◌+ℤ◌, ◌-ℤ◌, Some, None, Option, int_le, int_lt, slice_index_or}
 use Rattle.words.specs.declared.signs.Sign.{Sign}
 use Rattle.words.specs.declared.signs.Sign.TheVariants.{Equal, Unequal, Less, AtMost, Greater, AtLeast}
 use Rattle.conditions.specs.declared.condition.Shift.{Shift}

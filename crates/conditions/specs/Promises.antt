@@ -1,5 +1,5 @@
 -- What the calls of a reader promise, by the words still to come. Assumes nothing.
-use Rattle.std.specs.Prelude.{◌≡◌, ℕ, ◌+◌, ◌*◌, ◌<◌, ◌≤◌, Bool, true, false, List, [], ◌∷◌, length, replicate, Some, None, Ok, Err, Option, Result, MatchResult, slice_index_or}
+use Rattle.std.specs.Prelude.{◌≡◌, ℕ, ◌+◌, ◌*◌, ◌<◌, ◌≤◌, false, List, [], ◌∷◌, length, replicate, Some, None, Ok, Err, Option, Result, MatchResult, slice_index_or}
 use Rattle.text.specs.declared.refusal.Refusal.{Refusal}
 use Rattle.words.specs.Lexemes.{Lexeme}
 use Rattle.words.specs.Spots.{Spot, past}
@@ -8,7 +8,7 @@ use Rattle.words.specs.Tables.{texts, place}
 use Rattle.words.specs.declared.cursor.Words.{Words}
 use Rattle.conditions.specs.Trees.{Tree, compare, reads, comparisons, Within}
 use Rattle.conditions.specs.Keys.{marked}
-use Rattle.conditions.specs.Machine.{Seen, Place, State, Move, Outcome, Names, Side, Level, term, after, settled, arrived, begin, first, go, stop, done, run, accepted, refused, refusal, step, deep, joined, joining, field, found}
+use Rattle.conditions.specs.Machine.{Seen, Place, State, Move, Outcome, Names, Side, Level, term, after, settled, arrived, begin, first, go, stop, done, run, accepted, refused, refusal, deep, joining, field, found}
 use Rattle.conditions.specs.Postfix.{trees, tree}
 use Rattle.conditions.specs.declared.reader.Joining.TheVariants.{And, Or}
 use Rattle.conditions.specs.declared.condition.Found.{Found}

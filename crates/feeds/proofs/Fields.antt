@@ -4,7 +4,7 @@ use Rattle.std.proofs.lemmas.List.{append_assoc, length_push, length-append, len
 use Rattle.std.proofs.lemmas.Bool.{cond-true, cond-false, ne_eqb, and_left, and_right, and_from, le-ltb, le-leb, cases_lt, cases_Bool}
 use Rattle.text.specs.Numbers.{front, number}
 use Rattle.text.proofs.Words.{longer_number, whole_front, front_begins}
-use Rattle.feeds.specs.Sheets.{split, lines_of, lines, before, numbers, of_width, row_of, sheet}
+use Rattle.feeds.specs.Sheets.{split, lines_of, before, numbers, of_width, row_of, sheet}
 use Rattle.feeds.specs.Makings.{is_width}
 use Rattle.feeds.proofs.Parts.{Cutting, uncut, cut_at, longer, first_line, Split, split_first, split_some, lines_more, Clear, Spaced, Lined, piece, first_lined, first_clear, first_spaced, words_more, words_one, clear_at, front_before}
 

@@ -5,7 +5,7 @@ use Rattle.std.specs.List.{AllByRecursion as All}
 use Rattle.std.proofs.lemmas.Bool.{cond-false, ne_eqb, cases_eq}
 use Rattle.text.specs.Numbers.{digits_front, front}
 use Rattle.text.proofs.Fronts.{minus_front, plain_front}
-use Rattle.feeds.specs.Sheets.{onto, split, complete, lines_of, lines}
+use Rattle.feeds.specs.Sheets.{onto, split, complete, lines_of}
 
 -- a text cut at its first line feed, if it has one: the first line and what follows
 pub data Cutting : Type 0 where

@@ -1,5 +1,5 @@
 -- What open groups tell, and what a contribution makes of them. Assumes nothing.
-use Rattle.std.proofs.Common.{◌≡◌, ℕ, ◌+◌, ◌<◌, ◌≤◌, true, false, cond, eqb, ltb, List, map, length, get_or, drop, is_some, Some, None, vec_items, vec_len, sym, refl, ap, ◌∙◌, subst, arith}
+use Rattle.std.proofs.Common.{◌≡◌, ℕ, ◌+◌, ◌<◌, true, false, cond, eqb, ltb, List, map, length, get_or, drop, is_some, Some, vec_items, vec_len, sym, ap, ◌∙◌, subst, arith}
 use Rattle.std.proofs.lemmas.Bool.{lt-ltb, le-ltb}
 use Rattle.cells.specs.declared.id.GroupId.{GroupId}
 use Rattle.cells.specs.declared.cell.Cell.{Cell}
@@ -13,7 +13,7 @@ use Rattle.cells.specs.declared.place.Place.{Place}
 use Rattle.groups.specs.declared.added.Added.{Added}
 use Rattle.groups.specs.declared.added.Added.TheVariants.{Grown, Begun, NoRoom}
 use Rattle.groups.specs.declared.held.OpenGroups.{OpenGroups}
-use Rattle.groups.specs.Chains.{Linked, Found, Done, Putting, cells_of, live}
+use Rattle.groups.specs.Chains.{Linked, Found, Putting, cells_of, live}
 use Rattle.groups.specs.Held.{arrived, open_groups, Adding}
 use Rattle.groups.proofs.Walks.{length_live, live_at}
 

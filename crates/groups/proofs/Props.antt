@@ -1,12 +1,12 @@
 -- What places keep is a proposition, so a truncated ghost field gives it back. Assumes nothing.
-use Rattle.std.proofs.Common.{◌≡◌, ℕ, ◌<◌, ◌≤◌, List}
+use Rattle.std.proofs.Common.{ℕ, List}
 use mathlib.Core.Logic.{∥∥₁_elim}
 use native.Mathlib.Bridge.{le_prop}
 use native.Mathlib.Nat.{ℕ_set}
-use std.HLevel.{Π_prop, ⊥_prop}
+use std.HLevel.{⊥_prop}
 use mathlib.Core.Bool.{Bool-set}
 use Rattle.cells.specs.declared.place.Place.{Place}
-use Rattle.groups.specs.Chains.{Link, Heads, Nexts, Chained, Linked, Ordered, live}
+use Rattle.groups.specs.Chains.{Link, Chained, Linked, Ordered}
 
 link_prop : (bs : List ℕ) (top b k : ℕ) → IsProp (Link bs top b k)
 link_prop bs top b k x y = λ i. (le_prop x.0 y.0 i, (λ j p q e. ⊥_prop (x.1 j p q e) (y.1 j p q e) i), (λ h. ℕ_set _ _ (x.2 h) (y.2 h) i))

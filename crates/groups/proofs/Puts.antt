@@ -1,12 +1,12 @@
 -- What putting does to cells in order of arrival. Assumes nothing.
-use Rattle.std.proofs.Common.{◌≡◌, ℕ, ◌+◌, ◌<◌, ◌≤◌, List, [], ◌∷◌, ◌++◌, map, length, get_or, take, drop, set, Some, sym, refl, ap, ◌∙◌, subst, arith, drop-set-lt}
+use Rattle.std.proofs.Common.{◌≡◌, ℕ, ◌+◌, ◌<◌, ◌≤◌, List, [], ◌∷◌, ◌++◌, map, length, get_or, take, drop, set, Some, sym, ap, ◌∙◌, subst, arith, drop-set-lt}
 use lib.Seq.{take-set-lt}
 use Rattle.std.proofs.lemmas.List.{get_or-take, get_or_default, get_or-map, map-set, set-get_or, take_more_set}
 use Rattle.cells.specs.declared.cell.Cell.{Cell}
 use Rattle.cells.specs.declared.place.Place.{Place}
 use Rattle.groups.specs.declared.added.Added.TheVariants.{Grown, Begun}
-use Rattle.cells.specs.Groups.{put, grown, in_order, Apart, Absent}
-use Rattle.groups.specs.Chains.{Chained, Linked, Found, Done, Putting, cells_of, live}
+use Rattle.cells.specs.Groups.{grown, in_order, Apart, Absent}
+use Rattle.groups.specs.Chains.{Chained, Found, Putting, cells_of, live}
 use Rattle.groups.proofs.Walks.{length_cells, length_live}
 use Rattle.cells.proofs.InOrder.{in_order_push, apart_push, in_order_set, apart_set}
 

@@ -1,5 +1,5 @@
 -- The live places sorted where they lie. Assumes nothing.
-use Rattle.std.proofs.Common.{◌≡◌, ℕ, suc, ◌<◌, ◌≤◌, true, List, ◌++◌, map, length, get_or, take, drop, Ordering, Less, Equal, Greater, sym, refl, ap, ◌∙◌, subst, arith}
+use Rattle.std.proofs.Common.{◌≡◌, ℕ, suc, ◌≤◌, true, List, ◌++◌, length, take, drop, Ordering, Less, Equal, Greater, sym, refl, ap, ◌∙◌, subst, arith}
 use Rattle.std.specs.List.Sorted.{IsPermutation, IsSorted}
 use Rattle.std.specs.Ordering.{is_lt}
 use Rattle.std.proofs.lemmas.List.{take-map, drop-map, take_at, drop_at, length-take-le}
@@ -7,7 +7,7 @@ use Rattle.std.proofs.lemmas.List.Sorted.{length_permutation}
 use Rattle.cells.specs.declared.cell.Cell.{Cell}
 use Rattle.cells.specs.Order.{order}
 use Rattle.cells.specs.Groups.{Sorted, in_order, Apart}
-use Rattle.cells.proofs.Sorting.{sorted_is, sorted_next, sorted_later, sorted_apart, in_order_sorted}
+use Rattle.cells.proofs.Sorting.{sorted_is, sorted_next, sorted_later}
 use Rattle.cells.specs.declared.place.Place.{Place}
 use Rattle.groups.specs.Chains.{cells_of, live, Ascending}
 

@@ -1,12 +1,12 @@
 -- Walking a chain. Assumes nothing.
-use Rattle.std.proofs.Common.{◌≡◌, ℕ, zero, suc, ◌+◌, ◌-◌, ◌<◌, ◌≤◌, ◌⊎◌, List, [], ◌∷◌, ◌++◌, map, length, get_or, take, drop, sym, refl, ap, ◌∙◌, subst, inl, inr, append-nil, arith}
-use Rattle.std.proofs.lemmas.List.{get_or-map, length-map, get_or-take, length-take-le, get_or_default, take_all, drop_all}
+use Rattle.std.proofs.Common.{◌≡◌, ℕ, zero, suc, ◌+◌, ◌-◌, ◌<◌, ◌≤◌, ◌⊎◌, List, [], ◌∷◌, ◌++◌, map, length, get_or, take, drop, sym, refl, ap, ◌∙◌, inl, inr, append-nil, arith}
+use Rattle.std.proofs.lemmas.List.{get_or-map, length-map, get_or-take, length-take-le, take_all, drop_all}
 use Rattle.std.proofs.lemmas.Bool.{cases_lt}
 use Rattle.cells.specs.declared.id.GroupId.{GroupId}
 use Rattle.cells.specs.declared.cell.Cell.{Cell}
 use Rattle.cells.specs.Groups.{Absent}
 use Rattle.cells.specs.declared.place.Place.{Place}
-use Rattle.groups.specs.Chains.{Link, Heads, Nexts, Chained, cells_of, heads, nexts, buckets, live, emptied, bucket_of}
+use Rattle.groups.specs.Chains.{Link, Chained, cells_of, heads, buckets, live, emptied, bucket_of}
 
 module _ {V : Type 0} where
   pub bucket_at : (n : ℕ) (cs : List (Cell V)) (k : ℕ) (d : Cell V) → k < length cs → get_or (buckets n cs) k 0 ≡ bucket_of (get_or cs k d).id n

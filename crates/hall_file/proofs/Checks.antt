@@ -1,15 +1,13 @@
 -- From the parts to the whole file.
-use Rattle.std.proofs.Common.{◌≡◌, ℕ, ◌+◌, ◌-◌, ◌<◌, ◌≤◌, List, [], ◌∷◌, ◌++◌, length, take, Some, None, Option, sym, refl, ap, ◌∙◌, subst, arith}
-use Rattle.std.proofs.lemmas.List.{append-nil, append_assoc, length-append, take_at}
+use Rattle.std.proofs.Common.{◌≡◌, ℕ, ◌-◌, ◌≤◌, List, ◌++◌, length, take, Some, None, Option, sym, refl, ap, ◌∙◌, arith}
+use Rattle.std.proofs.lemmas.List.{length-append, take_at}
 use Rattle.measures.specs.Values.{most_rows}
 use Rattle.measures.specs.Meaning.{Meaning}
 use Rattle.readers.specs.Readers.{changed, go_on, after}
-use Rattle.readers.proofs.Inverses.{Inverse, none_some}
+use Rattle.readers.proofs.Inverses.{none_some}
 use Rattle.hall_file.specs.declared.head.Head.{Head}
-use Rattle.hall_file.specs.declared.view.View.{View}
-use Rattle.hall_file.specs.Written.{Column, Content, file_bytes, columns_bytes, head_bytes}
+use Rattle.hall_file.specs.Written.{Column, Content, file_bytes, columns_bytes}
 use Rattle.hall_file.specs.Rules.{Good}
-use Rattle.hall_file.specs.Views.{Shows}
 use Rattle.hall_file.specs.Reading.{head, columns, file}
 use Rattle.hall_file.proofs.Forms.{Lawful, GoodHead, inv_head, inv_columns, inv_file}
 

@@ -1,21 +1,20 @@
 -- The readers of the parts read just what is written.
-use Rattle.std.proofs.Common.{◌≡◌, ℕ, zero, suc, ◌+◌, ◌-◌, ◌^◌, ◌<◌, ◌≤◌, Bool, true, false, cond, ◌&&◌, eqb, ltb, leb, List, [], ◌∷◌, ◌++◌, length, take, drop, replicate, ℤ, pos, nat_abs, Some, None, Option, sym, refl, ap, ◌∙◌, subst, arith, take-append-drop, pow_mono, w32, SFits, to_z, of_z}
+use Rattle.std.proofs.Common.{◌≡◌, ℕ, zero, suc, ◌+◌, ◌-◌, ◌^◌, ◌<◌, ◌≤◌, Bool, true, false, cond, eqb, ltb, leb, List, [], ◌∷◌, ◌++◌, length, take, replicate, ℤ, pos, nat_abs, Some, None, Option, sym, refl, ap, ◌∙◌, subst, arith, take-append-drop, pow_mono, w32, SFits, to_z, of_z}
 use lib.Count.{ones}
 use mir.Facts.{sfits_to_z}
 use Rattle.std.specs.List.{flat_map, AllByRecursion as All}
-use Rattle.std.proofs.lemmas.List.{take_at, drop_at, append-nil, length-take-le, length-append, length-replicate}
+use Rattle.std.proofs.lemmas.List.{take_at, drop_at, length-take-le, length-append, length-replicate}
 use Rattle.std.proofs.lemmas.Int.{to_z-of_z, of_z-to_z, ints}
-use Rattle.std.proofs.lemmas.Bool.{leb-true, le-leb, lt-ltb, ltb-true, and_parts, and_from, eq-eqb, eqb-true, cond-true}
+use Rattle.std.proofs.lemmas.Bool.{leb-true, le-leb, ltb-true, and_parts, and_from, eq-eqb, eqb-true, cond-true}
 use Rattle.measures.specs.Values.{RowValue, is_row_value, most_rows}
 use Rattle.measures.specs.Bytes.{bytes_of}
 use Rattle.measures.specs.Meaning.{Meaning, Properties, Formed, Possible}
 use Rattle.cells.specs.Columns.{Group}
-use Rattle.readers.specs.Readers.{Reader, seq, via, only_if, times, constant, number, byte, chosen}
 use Rattle.readers.proofs.Inverses.{Inverse, none_some, inv_via, inv_seq, inv_if, inv_times, inv_constant, inv_byte, inv_number, inv_like, inv_chosen, Many}
 use Rattle.hall_file.specs.declared.shape.ColumnShape.{ColumnShape}
 use Rattle.hall_file.specs.declared.head.Head.{Head}
-use Rattle.hall_file.specs.Written.{Column, Content, width, mark, version, int_bytes, key_bytes, measured_byte, head_bytes, group_bytes, groups_bytes, shape_bytes, column_bytes, columns_bytes, file_bytes}
-use Rattle.hall_file.specs.Rules.{Key, is_after, Ascends, rows_of, measured_fits, mask_fits, GoodGroup, GoodShape, GoodColumn, Good, most_fields, most_columns}
+use Rattle.hall_file.specs.Written.{Content, width, mark, version, int_bytes, key_bytes, measured_byte, head_bytes, group_bytes, groups_bytes, shape_bytes, column_bytes, columns_bytes, file_bytes}
+use Rattle.hall_file.specs.Rules.{Key, is_after, Ascends, rows_of, measured_fits, mask_fits, GoodGroup, GoodShape, GoodColumn, Good}
 use Rattle.hall_file.specs.Reading.{int, padded, key, fits, rows, one_to, head, measured_of, if_possible, value, group, groups, shape, column, columns, file}
 
 -- a key value

@@ -1,17 +1,16 @@
 -- The head of a file and a column's shape, as the code takes them apart.
-use Rattle.std.proofs.Common.{◌≡◌, ℕ, zero, suc, ◌+◌, ◌-◌, ◌*◌, ◌%◌, ◌<◌, ◌≤◌, Bool, true, false, List, [], ◌∷◌, ◌++◌, length, get_or, take, drop, Some, None, Option, sym, refl, ap, ◌∙◌, subst, arith}
+use Rattle.std.proofs.Common.{◌≡◌, ℕ, ◌+◌, ◌-◌, ◌*◌, ◌%◌, ◌<◌, ◌≤◌, true, false, List, [], ◌∷◌, ◌++◌, length, get_or, take, drop, Some, None, Option, sym, refl, ap, ◌∙◌, subst, arith}
 use Rattle.std.proofs.lemmas.List.{take_rest, drop-drop, get_or-drop, length-drop}
 use Rattle.std.proofs.lemmas.Bool.{both_ways}
 use Rattle.measures.specs.Values.{most_rows}
 use Rattle.measures.specs.Bytes.{bytes_of}
 use Rattle.measures.specs.Meaning.{Meaning}
-use Rattle.readers.specs.Readers.{number}
 use Rattle.readers.proofs.Inverses.{none_some, some_when, none_unless, inv_number}
 use Rattle.readers.proofs.Steps.{number_four}
 use Rattle.hall_file.specs.declared.shape.ColumnShape.{ColumnShape}
 use Rattle.hall_file.specs.declared.head.Head.{Head}
 use Rattle.hall_file.specs.Written.{measured_byte, head_bytes, shape_bytes}
-use Rattle.hall_file.specs.Rules.{mask_fits, GoodShape}
+use Rattle.hall_file.specs.Rules.{mask_fits}
 use Rattle.hall_file.specs.Reading.{head, shape, measured_of}
 use Rattle.hall_file.proofs.Forms.{GoodHead, inv_head, Lawful, inv_shape, measured_only, measured_reads_back}
 

@@ -1,16 +1,15 @@
 -- What views show, as the code looks at it.
-use Rattle.std.proofs.Common.{◌≡◌, ℕ, zero, suc, ◌+◌, ◌-◌, ◌*◌, ◌<◌, ◌≤◌, min, List, [], ◌∷◌, ◌++◌, length, take, drop, ℤ, Some, None, Option, sym, refl, ap, ◌∙◌, subst, suc-mul, add_comm, arith}
-use lib.Count.{ones}
+use Rattle.std.proofs.Common.{◌≡◌, ℕ, suc, ◌+◌, ◌-◌, ◌*◌, ◌<◌, ◌≤◌, min, List, [], ◌∷◌, ◌++◌, length, take, drop, ℤ, Some, Option, sym, refl, ap, ◌∙◌, suc-mul, add_comm, arith}
 use Rattle.std.specs.List.{flat_map, AllByRecursion as All}
-use Rattle.std.proofs.lemmas.List.{append_assoc, append-nil, length-append, length-take, take_at, drop_at, take_rest}
+use Rattle.std.proofs.lemmas.List.{append_assoc, length-append, length-take, take_at, drop_at, take_rest}
 use Rattle.measures.specs.Values.{most_rows}
 use Rattle.measures.specs.Bytes.{bytes_of}
 use Rattle.measures.specs.Meaning.{Meaning, Formed}
 use Rattle.cells.specs.Columns.{Group}
 use Rattle.readers.specs.Readers.{number}
-use Rattle.readers.proofs.Inverses.{Inverse, none_some, inv_number}
+use Rattle.readers.proofs.Inverses.{inv_number}
 use Rattle.hall_file.specs.declared.shape.ColumnShape.{ColumnShape}
-use Rattle.hall_file.specs.Written.{Column, width, group_length, int_bytes, key_bytes, group_bytes, groups_bytes, shape_bytes, column_bytes, columns_bytes}
+use Rattle.hall_file.specs.Written.{Column, width, group_length, int_bytes, key_bytes, group_bytes, groups_bytes, shape_bytes, columns_bytes}
 use Rattle.hall_file.specs.Rules.{GoodGroup, GoodColumn, rows_of}
 use Rattle.hall_file.specs.Reading.{shape, group}
 use Rattle.hall_file.proofs.Forms.{Lawful, inv_shape, inv_group, good_mask}

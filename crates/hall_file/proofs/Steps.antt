@@ -1,15 +1,14 @@
 -- The readers of keys, values, groups and columns, step by step as the code goes.
-use Rattle.std.proofs.Common.{◌≡◌, ℕ, zero, suc, ◌+◌, ◌-◌, ◌*◌, ◌<◌, ◌≤◌, Bool, true, false, cond, ◌&&◌, eqb, ltb, leb, List, [], ◌∷◌, ◌++◌, length, get_or, take, drop, set, replicate, ℤ, pos, Some, None, Option, sym, refl, ap, ◌∙◌, subst, arith}
+use Rattle.std.proofs.Common.{◌≡◌, ℕ, zero, suc, ◌+◌, ◌-◌, ◌<◌, ◌≤◌, true, false, eqb, List, [], ◌∷◌, ◌++◌, length, get_or, take, drop, set, replicate, ℤ, pos, Some, None, Option, sym, refl, ap, ◌∙◌, arith}
 use Rattle.std.proofs.lemmas.List.{take-append-drop, append-nil, append_assoc, take_more_set, drop-set-lt, length-take-le, length-set, drop_more}
 use Rattle.std.proofs.lemmas.Bool.{cond-true, cond-false, eq-eqb, ne_eqb}
 use Rattle.measures.specs.Meaning.{Meaning}
 use Rattle.cells.specs.declared.cell.Cell.{Cell}
 use Rattle.cells.specs.Columns.{Group, cell_of, group as group-in}
-use Rattle.readers.specs.Readers.{Reader, changed, go_on, kept, picked, with_rest, after, seq, via, only_if, chosen, times, number, byte}
+use Rattle.readers.specs.Readers.{changed, go_on, kept, picked, with_rest, after, seq, times, number}
 use Rattle.readers.proofs.Inverses.{none_some}
 use Rattle.readers.proofs.Steps.{kept_yes, kept_no, changed_like, after_changed, listed, times_step, times_none, bytes_short, bytes_in}
 use Rattle.hall_file.specs.declared.shape.ColumnShape.{ColumnShape}
-use Rattle.hall_file.specs.declared.head.Head.{Head}
 use Rattle.hall_file.specs.Written.{Column, width}
 use Rattle.hall_file.specs.Rules.{is_after}
 use Rattle.hall_file.specs.Reading.{int, padded, key, if_possible, value, rows, group, groups, shape, column}

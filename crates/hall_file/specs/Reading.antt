@@ -1,5 +1,5 @@
 -- Readers of the parts of a hall file, as the code takes them. Assumes nothing.
-use Rattle.std.specs.Prelude.{ℕ, zero, suc, ◌-◌, Bool, cond, ◌&&◌, leb, List, [], ◌∷◌, ◌++◌, length, replicate, ℤ, pos, Some, None, Option, ◌==◌, nat_eq, nat_le, nat_lt}
+use Rattle.std.specs.Prelude.{ℕ, zero, suc, ◌-◌, Bool, cond, ◌&&◌, leb, List, ◌∷◌, ◌++◌, length, replicate, ℤ, pos, Some, None, Option, ◌==◌, nat_eq, nat_le, nat_lt}
 use Rattle.std.proofs.Common.{to_z}
 use Rattle.std.specs.Int.{w32}
 use Rattle.measures.specs.Values.{is_row_value, most_rows}

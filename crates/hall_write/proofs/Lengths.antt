@@ -1,14 +1,12 @@
 -- Cells and columns, one at a time.
-use Rattle.std.proofs.Common.{◌≡◌, ℕ, zero, suc, ◌+◌, ◌-◌, ◌*◌, ◌<◌, ◌≤◌, min, Bool, true, false, cond, eqb, ◌⊎◌, List, [], ◌∷◌, ◌++◌, length, get_or, take, drop, ℤ, pos, sym, refl, ap, ◌∙◌, subst, inl, inr, arith}
-use Rattle.std.specs.List.{flat_map, AllByRecursion as All}
-use Rattle.std.proofs.lemmas.List.{append-nil, length-append, drop_more, drop_all, at_drop_more, at_drop_all, take_all, length-take-le}
-use Rattle.measures.specs.Bytes.{bytes_of}
-use Rattle.measures.specs.Meaning.{Meaning, Formed}
+use Rattle.std.proofs.Common.{◌≡◌, ℕ, zero, suc, ◌+◌, ◌-◌, ◌<◌, ◌≤◌, min, Bool, true, false, cond, eqb, ◌⊎◌, List, [], ◌∷◌, ◌++◌, length, get_or, take, drop, ℤ, pos, sym, refl, ap, ◌∙◌, inl, inr, arith}
+use Rattle.std.specs.List.{flat_map}
+use Rattle.std.proofs.lemmas.List.{drop_more, drop_all, take_all}
+use Rattle.measures.specs.Meaning.{Meaning}
 use Rattle.cells.specs.declared.cell.Cell.{Cell}
-use Rattle.cells.specs.Columns.{Group, group, column}
+use Rattle.cells.specs.Columns.{group, column}
 use Rattle.hall_file.specs.declared.shape.ColumnShape.{ColumnShape}
-use Rattle.hall_file.specs.Written.{Column, Content, group_length, int_bytes, key_bytes, head_bytes, shape_bytes, group_bytes, groups_bytes, column_bytes, columns_bytes, file_bytes}
-use Rattle.hall_file.proofs.Looks.{group_size}
+use Rattle.hall_file.specs.Written.{Column, int_bytes, key_bytes, head_bytes, group_bytes, groups_bytes, column_bytes, columns_bytes, file_bytes}
 use Rattle.hall_write.specs.Laid.{laid, content_of, cell_bytes}
 
 -- one cell more or less in a column

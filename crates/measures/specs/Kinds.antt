@@ -1,5 +1,5 @@
 -- The five kinds of measure. Assumes nothing.
-use Rattle.std.specs.Prelude.{ℕ, ◌+◌, ◌-◌, ◌*◌, ◌^◌, min, Bool, true, false, cond, ◌&&◌, List, [], ◌∷◌, ℤ, pos, ◌+ℤ◌, Some, None, Option, ◌==◌, nat_le, nat_lt, slice_index_or, unsigned_abs}
+use Rattle.std.specs.Prelude.{ℕ, ◌+◌, ◌-◌, ◌*◌, ◌^◌, min, Bool, cond, ◌&&◌, List, ℤ, pos, ◌+ℤ◌, Some, None, Option, ◌==◌, nat_le, nat_lt, slice_index_or, unsigned_abs}
 use Rattle.std.proofs.Common.{to_z, of_z}
 use Rattle.std.specs.Int.{int_min, int_max, saturate_to_bits, w64}
 use Rattle.measures.specs.declared.answer.Answer.{Answer}

@@ -1,15 +1,15 @@
 -- Each of the five kinds keeps the six properties. Assumes nothing.
-use Rattle.std.specs.Prelude.{◌≡◌, ℕ, ◌+◌, ◌-◌, ◌*◌, ◌^◌, ◌<◌, ◌≤◌, min, Bool, true, false, cond, ◌&&◌, List, [], ◌∷◌, length, ℤ, pos, ◌+ℤ◌, Some, None, Option, FitsSigned, unsigned_abs, refl}
+use Rattle.std.specs.Prelude.{◌≡◌, ℕ, ◌+◌, ◌*◌, ◌^◌, ◌<◌, ◌≤◌, Bool, true, false, cond, List, length, ℤ, pos, ◌+ℤ◌, Some, None, Option, FitsSigned, unsigned_abs, refl}
 use Rattle.std.proofs.Common.{sym, ap, subst, ◌∙◌, arith, to_z, of_z}
 use Rattle.std.proofs.lemmas.Bool.{eq-eqb, eqb-true, leb-true, le-leb, and_parts, and_from}
 use Rattle.std.proofs.lemmas.Bool.Decides.{nat_tests}
 use Rattle.std.proofs.lemmas.Int.{to_z-of_z, of_z-to_z, clamps, ints}
 use Rattle.std.proofs.ByRecursion.{All-get_or}
-use Rattle.std.specs.Int.{int_min, int_max, saturate_to_bits, w64}
+use Rattle.std.specs.Int.{int_min, int_max, w64}
 use Rattle.std.specs.List.{AllByRecursion as All}
 use Rattle.measures.specs.declared.answer.Answer.{Answer}
-use Rattle.measures.specs.Values.{greatest_value, RowValue, is_row_value}
-use Rattle.measures.specs.Meaning.{Writable, Meaning, Properties, Formed}
+use Rattle.measures.specs.Values.{greatest_value, RowValue}
+use Rattle.measures.specs.Meaning.{Writable, Properties, Formed}
 use Rattle.measures.specs.Bytes.{bytes_of, word_of, EightBytes}
 use Rattle.measures.specs.Kinds.{count, counted, total, adding, is_sum_of, measured, signed_bytes, signed_word, extreme, least, greatest, better, is_extreme_of, extreme_bytes, extreme_read}
 use Rattle.measures.specs.Words.{bytes_of_eight, word_of_bytes_of, bytes_of_word_of, word_of_below}

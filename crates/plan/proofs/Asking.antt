@@ -1,5 +1,5 @@
 -- A condition in a plan. Assumes nothing.
-use Rattle.std.proofs.Common.{◌≡◌, ℕ, ◌<◌, ◌≤◌, Bool, List, [], ◌∷◌, length, IfOk, Some, None, Ok, Err, Result, sym, refl, ap, ◌∙◌, subst, arith}
+use Rattle.std.proofs.Common.{◌≡◌, ℕ, ◌<◌, ◌≤◌, List, [], ◌∷◌, length, IfOk, Some, None, Ok, Err, Result, sym, refl, ap, ◌∙◌, subst, arith}
 use Rattle.text.specs.declared.refusal.Refusal.{Refusal}
 use Rattle.words.specs.Lexemes.{Lexeme}
 use Rattle.words.specs.Spots.{Spot, past}
@@ -15,7 +15,7 @@ use Rattle.words.specs.declared.cursor.Words.{Words}
 use Rattle.plan.specs.Promises.{rest, Leads}
 use Rattle.conditions.specs.declared.condition.FieldNames.{FieldNames}
 use Rattle.plan.specs.Drafts.{Head, Draft, with_column, names_of}
-use Rattle.plan.specs.Machine.{Stage, Motion, on, halt, line, asks, asking, step, run}
+use Rattle.plan.specs.Machine.{on, halt, line, asks, asking, run}
 
 -- what a plan goes on to after a condition
 abbrev pub after_condition : Draft → Head → Outcome → Result Draft Refusal

@@ -1,16 +1,16 @@
 -- How the words of a plan still to come go on, one word at a time. Assumes nothing.
-use Rattle.std.proofs.Common.{◌≡◌, ℕ, ◌+◌, ◌<◌, ◌≤◌, Bool, true, false, cond, ◌&&◌, ltb, List, [], ◌∷◌, ◌++◌, length, is_some, Some, None, Ok, Err, Option, Result, sym, refl, ap, ◌∙◌, subst, arith}
-use Rattle.std.proofs.lemmas.Bool.{true≢false, cond-true, cond-false, and_left}
+use Rattle.std.proofs.Common.{◌≡◌, ℕ, ◌<◌, ◌≤◌, Bool, true, false, ◌&&◌, ltb, List, [], ◌∷◌, ◌++◌, length, is_some, Err, Result, sym, refl, ap, ◌∙◌, subst, arith}
+use Rattle.std.proofs.lemmas.Bool.{true≢false, cond-true, cond-false}
 use Rattle.text.specs.declared.refusal.Refusal.{Refusal}
-use Rattle.words.specs.Lexemes.{Lexeme, name, reserved, number, sign, shift, bracket, other, feed, cut}
+use Rattle.words.specs.Lexemes.{Lexeme, cut}
 use Rattle.words.specs.Spots.{Spot, past}
 use Rattle.words.specs.Cutting.{next, later, none_left, to_come, here}
 use Rattle.words.specs.Tables.{place}
 use Rattle.words.specs.declared.cursor.Words.{Words}
 use Rattle.conditions.specs.Machine.{Fault, form, taken, limit, refusal}
-use Rattle.plan.specs.Lines.{Naming, word, held, no_name, declared, ends_line, following, kind_of}
-use Rattle.plan.specs.Drafts.{Draft, Head}
-use Rattle.plan.specs.Machine.{Stage, Motion, on, halt, line, enter, some, naming, naming_line, named, measured, headed, step, finish, run}
+use Rattle.plan.specs.Lines.{word, declared, ends_line}
+use Rattle.plan.specs.Drafts.{Draft}
+use Rattle.plan.specs.Machine.{Stage, Motion, on, halt, enter, some, naming, naming_line, step, finish, run}
 use Rattle.plan.specs.Promises.{rest, pick, onto, Leads, LineOfNames}
 
 -- the next word of a reader

@@ -1,5 +1,5 @@
 -- Columns with their names. Assumes nothing.
-use Rattle.std.proofs.Common.{◌≡◌, ℕ, suc, ◌+◌, ◌<◌, ◌≤◌, List, [], ◌∷◌, ◌++◌, length, set, sym, refl, ap, ◌∙◌, arith}
+use Rattle.std.proofs.Common.{◌≡◌, ℕ, suc, ◌<◌, List, [], ◌∷◌, ◌++◌, length, set, refl, ap, arith}
 use Rattle.plan.specs.Drafts.{Entry, entry_of, paired, column_names}
 use Rattle.any_measure.specs.declared.any.AnyMeasure.{AnyMeasure}
 use Rattle.plan.specs.declared.plan.Column.{Column}

@@ -1,5 +1,5 @@
 -- A plan from its text, line by line. Assumes nothing.
-use Rattle.std.proofs.Common.{◌≡◌, ℕ, ◌<◌, ◌≤◌, Bool, true, false, cond, ltb, List, [], ◌∷◌, length, take, Ok, Err, Result, sym, refl, ap, ◌∙◌, subst, arith}
+use Rattle.std.proofs.Common.{◌≡◌, ℕ, ◌<◌, ◌≤◌, true, false, ltb, List, [], ◌∷◌, length, take, Ok, Err, Result, sym, refl, ap, ◌∙◌, arith}
 use Rattle.std.proofs.lemmas.List.{take_all}
 use Rattle.std.proofs.lemmas.Bool.{true≢false, cond-true, cond-false, lt-ltb, le-ltb}
 use Rattle.text.specs.declared.refusal.Refusal.{Refusal}
@@ -20,7 +20,7 @@ use Rattle.plan.specs.declared.reading.Awaits.{Awaits}
 use Rattle.plan.specs.declared.reading.Awaits.TheVariants.{Rows, Base, Columns}
 use Rattle.plan.specs.declared.words_of_plan.Leading.{Leading}
 use Rattle.plan.specs.declared.words_of_plan.Leading.TheVariants as leads
-use Rattle.plan.proofs.Motions.{next_of, moves, moves_some, advanced, halted}
+use Rattle.plan.proofs.Motions.{next_of, moves, moves_some, halted}
 
 -- too long a text
 pub too_long : (text : List ℕ) → 4096 < length text → Err (PlanLimit 0 0) ≡ plan_of text

@@ -1,9 +1,9 @@
 -- The plan that words write, read from left to right, one word at a time: what may stand where, and what is wrong
 -- where something else stands. Assumes nothing.
-use Rattle.std.specs.Prelude.{ℕ, Bool, true, false, cond, not, ◌&&◌, List, [], ◌∷◌, ◌++◌, length, is_some, Some, None, Ok, Err, Option, Result, nat_lt}
+use Rattle.std.specs.Prelude.{ℕ, Bool, true, false, cond, ◌&&◌, List, [], ◌∷◌, ◌++◌, length, is_some, Some, None, Ok, Err, Option, Result, nat_lt}
 use Rattle.text.specs.declared.refusal.Refusal.{Refusal}
 use Rattle.text.specs.declared.refusal.Refusal.TheVariants.{PlanLimit}
-use Rattle.words.specs.Lexemes.{Lexeme, name, reserved, number, sign, shift, bracket, other, feed, cut}
+use Rattle.words.specs.Lexemes.{Lexeme}
 use Rattle.words.specs.Spots.{Spot, spot, past}
 use Rattle.words.specs.Cutting.{lexemes}
 use Rattle.words.specs.Tables.{place}

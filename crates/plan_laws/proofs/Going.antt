@@ -1,5 +1,5 @@
 -- Words none of which is wrong begin some plan. Assumes nothing.
-use Rattle.std.proofs.Common.{◌≡◌, ℕ, ◌+◌, ◌<◌, ◌≤◌, Bool, true, false, cond, ◌&&◌, eqb, ltb, leb, ◌⊎◌, List, [], ◌∷◌, ◌++◌, length, pos, is_some, Some, None, Ok, Err, Option, Result, sym, refl, ap, ◌∙◌, subst, inl, inr, arith}
+use Rattle.std.proofs.Common.{◌≡◌, ℕ, ◌+◌, Bool, true, false, cond, ◌&&◌, ltb, List, [], ◌∷◌, ◌++◌, length, pos, is_some, Some, None, Ok, Err, Option, Result, sym, refl, ap, ◌∙◌, arith}
 use Rattle.std.proofs.lemmas.Bool.{true≢false, cond-true, lt-ltb, leb-false, eq-eqb}
 use Rattle.text.specs.declared.refusal.Refusal.{Refusal}
 use Rattle.words.specs.Lexemes.{Lexeme, name, reserved, number, sign, shift, bracket, feed, same}
@@ -10,7 +10,6 @@ use Rattle.words.specs.declared.tokens.Keyword.TheVariants as keywords
 use Rattle.conditions.specs.Trees.{Tree, compare, denial, bracketed, both}
 use Rattle.conditions.specs.Machine.{Names, Prefix, deny, along, Level, Place, Side, left, right, Seen, State, term, operand, field, by, compared, after, settle, settled, arrived, joined, Outcome, accepted, refused, refusal}
 use Rattle.conditions.specs.Machine as conditions
-use Rattle.conditions.specs.declared.condition.Shift.{Shift}
 use Rattle.conditions.specs.declared.condition.Shift.TheVariants.{Plus, Minus}
 use Rattle.conditions.specs.declared.condition.Operand.{Operand}
 use Rattle.conditions.specs.declared.condition.Operand.TheVariants.{Number}

@@ -1,6 +1,6 @@
 -- An accepted plan keeps every limit. Assumes nothing.
-use Rattle.std.proofs.Common.{◌≡◌, ℕ, zero, suc, ◌+◌, ◌<◌, ◌≤◌, Bool, true, false, cond, ◌&&◌, ltb, List, [], ◌∷◌, ◌++◌, length, get_or, is_some, Some, None, Ok, Err, Option, Result, sym, refl, ap, ◌∙◌, subst, arith, length-append}
-use Rattle.std.proofs.lemmas.Bool.{ltb-true, ltb-false, and_parts, cond-true, cases_Bool}
+use Rattle.std.proofs.Common.{◌≡◌, ℕ, zero, suc, ◌+◌, ◌<◌, ◌≤◌, Bool, true, false, cond, ◌&&◌, ltb, List, [], ◌∷◌, ◌++◌, length, is_some, Some, None, Ok, Err, Option, Result, sym, refl, ap, ◌∙◌, subst, arith, length-append}
+use Rattle.std.proofs.lemmas.Bool.{ltb-true, ltb-false}
 use Rattle.text.specs.declared.refusal.Refusal.{Refusal}
 use Rattle.words.specs.Lexemes.{Lexeme}
 use Rattle.words.specs.Spots.{Spot, spot, past}
@@ -8,10 +8,9 @@ use Rattle.words.specs.Cutting.{lexemes}
 use Rattle.words.specs.Tables.{place}
 use Rattle.words.proofs.Tabling.{place_below}
 use Rattle.conditions.specs.Trees.{Tree}
-use Rattle.conditions.specs.Keys.{marked}
 use Rattle.conditions.specs.Machine.{Names, Fault, form, refusal, Seen, State, term, Outcome, accepted, refused}
 use Rattle.conditions.specs.Machine as conditions
-use Rattle.conditions.specs.Promises.{opened, unread, condition_of, named}
+use Rattle.conditions.specs.Promises.{condition_of}
 use Rattle.conditions.specs.declared.condition.Found.TheVariants.{RowField}
 use Rattle.conditions.proofs.Limits.{keeps_limits}
 use Rattle.conditions.proofs.Noting.{notes_fields}

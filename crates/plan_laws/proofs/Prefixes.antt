@@ -1,5 +1,5 @@
 -- The refusal is settled by the words up to the refused one. Assumes nothing.
-use Rattle.std.proofs.Common.{◌≡◌, ℕ, ◌+◌, ◌<◌, ◌≤◌, Bool, true, false, cond, eqb, ltb, ◌⊎◌, List, [], ◌∷◌, ◌++◌, length, ℤ, Some, None, Ok, Err, Option, Result, sym, refl, ap, ◌∙◌, subst, inl, inr, arith}
+use Rattle.std.proofs.Common.{◌≡◌, ℕ, ◌+◌, ◌<◌, ◌≤◌, Bool, true, false, cond, eqb, ltb, ◌⊎◌, List, [], ◌∷◌, ◌++◌, length, ℤ, Some, None, Err, Option, Result, sym, refl, ap, ◌∙◌, subst, inl, inr, arith}
 use Rattle.std.proofs.lemmas.Bool.{cond-false, le-ltb}
 use Rattle.text.specs.Numbers as numbers
 use Rattle.text.specs.declared.refusal.Refusal.{Refusal}
@@ -13,7 +13,7 @@ use Rattle.conditions.specs.Machine.{Fault, form, taken, unknown, limit, refusal
 use Rattle.plan.specs.Drafts.{Draft, Entry}
 use Rattle.plan.specs.Machine.{Stage, Motion, on, halt, step, start, rows, second, bases, measured, headed, asks, whole, finish, run, plan_of}
 use Rattle.plan.specs.Machine as machine
-use Rattle.plan_laws.specs.Theorems.{after_words, RefusedAt, FirstBadWord}
+use Rattle.plan_laws.specs.Theorems.{after_words, FirstBadWord}
 
 -- a word or the end of a line
 abbrev Told : Lexeme → Type 0

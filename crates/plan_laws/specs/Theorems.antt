@@ -1,6 +1,6 @@
 -- What is shown above the definitions. Assumes nothing.
 use Rattle.std.specs.Prelude.{◌≡◌, ℕ, ◌<◌, ◌≤◌, Bool, false, List, [], ◌∷◌, ◌++◌, length, Some, None, Ok, Err, Option, nat_le, slice_index_or}
-use Rattle.words.specs.Lexemes.{Lexeme, name, reserved, number, sign, shift, bracket, other, feed, cut}
+use Rattle.words.specs.Lexemes.{Lexeme}
 use Rattle.words.specs.Spots.{Spot, spot, past}
 use Rattle.words.specs.Cutting.{lexemes}
 use Rattle.conditions.specs.Trees.{Tree, comparisons, Within, reads}

@@ -1,5 +1,5 @@
 -- One pass gathers what the rows that meet the condition come to. Assumes nothing.
-use Rattle.std.proofs.Common.{◌≡◌, ℕ, zero, suc, ◌+◌, ◌<◌, ◌≤◌, Bool, true, false, cond, List, [], ◌∷◌, length, get_or, take, drop, ℤ, Some, None, Ok, Err, fold, Option, Result, sym, refl, ap, ◌∙◌, add-zero, zero-add, add-one, arith, Bor}
+use Rattle.std.proofs.Common.{◌≡◌, ℕ, zero, suc, ◌+◌, ◌<◌, ◌≤◌, Bool, true, false, cond, List, [], ◌∷◌, length, get_or, take, drop, ℤ, Some, None, Ok, Err, fold, sym, refl, ap, ◌∙◌, add-zero, zero-add, add-one, arith, Bor}
 use Rattle.measures.specs.Meaning.{Meaning}
 use Rattle.plan.specs.declared.plan.Column.{Column}
 use Rattle.scan.specs.declared.found.Gathered.{Gathered}

@@ -1,9 +1,9 @@
 -- How a word is cut out of the text. Assumes nothing.
-use Rattle.std.proofs.Common.{◌≡◌, ℕ, suc, ◌+◌, ◌-◌, ◌<◌, ◌≤◌, Bool, true, false, cond, ◌&&◌, eqb, ltb, ◌⊎◌, List, [], ◌∷◌, ◌++◌, length, get_or, take, drop, sym, refl, ap, ◌∙◌, inl, inr, append_assoc, append-nil, add-one, arith, get_or-drop, drop-cons}
+use Rattle.std.proofs.Common.{◌≡◌, ℕ, suc, ◌+◌, ◌-◌, ◌<◌, ◌≤◌, Bool, true, false, cond, ◌&&◌, eqb, ◌⊎◌, List, [], ◌∷◌, ◌++◌, length, get_or, take, drop, sym, refl, ap, ◌∙◌, inl, inr, append_assoc, append-nil, add-one, arith, get_or-drop, drop-cons}
 use Rattle.std.proofs.lemmas.List.{drop_all, take_more, length-drop, nil_from_length}
-use Rattle.std.proofs.lemmas.Bool.{true≢false, cond-true, cond-false, eq-eqb, ne_eqb, and_left, and_right, lt-ltb, le-ltb, cases_lt, cases_eq}
-use Rattle.words.specs.Lexemes.{Lexeme, feed, cut, lexeme, all_of, same}
-use Rattle.words.specs.Cutting.{line, spell, after_word, lexemes, ahead, next, later}
+use Rattle.std.proofs.lemmas.Bool.{cond-true, cond-false, eq-eqb, ne_eqb, and_left, and_right}
+use Rattle.words.specs.Lexemes.{Lexeme, feed, lexeme, all_of, same}
+use Rattle.words.specs.Cutting.{line, spell, after_word, lexemes, ahead}
 
 -- the first byte of what is left
 front : (w : List ℕ) (i : ℕ) → i < length w → drop i w ≡ get_or w i 0 ∷ drop (i + 1) w

@@ -1,5 +1,5 @@
 -- One word on: what is still to come, and where. Assumes nothing.
-use Rattle.std.proofs.Common.{◌≡◌, ℕ, ◌+◌, ◌-◌, ◌<◌, ◌≤◌, Bool, true, false, cond, eqb, ◌⊎◌, List, [], ◌∷◌, length, get_or, take, drop, ℤ, Some, None, Option, sym, refl, ap, ◌∙◌, inl, inr, arith}
+use Rattle.std.proofs.Common.{◌≡◌, ℕ, ◌+◌, ◌-◌, ◌<◌, ◌≤◌, Bool, true, false, cond, eqb, ◌⊎◌, List, ◌∷◌, length, get_or, take, drop, ℤ, Some, None, Option, sym, refl, ap, ◌∙◌, inl, inr, arith}
 use Rattle.std.proofs.lemmas.List.{take_rest}
 use Rattle.std.proofs.lemmas.Bool.{ne_eqb, cases_eq}
 use Rattle.text.specs.Numbers as numbers
@@ -9,7 +9,7 @@ use Rattle.words.specs.Cutting.{spell, after_word, ahead, next, later, none_left
 use Rattle.words.specs.declared.signs.Mark.{Mark}
 use Rattle.words.specs.declared.signs.Mark.TheVariants as marks
 use Rattle.words.specs.declared.tokens.Keyword.{Keyword}
-use Rattle.words.proofs.Spelling.{ahead_none, ahead_first, ahead_feed, ahead_word, ahead_after}
+use Rattle.words.proofs.Spelling.{ahead_first, ahead_feed, ahead_word, ahead_after}
 
 -- whatever a word is, the next one has the next number
 module _ (w : List ℕ) (at : Spot) where

@@ -1,5 +1,5 @@
 -- How a text is cut into words. Assumes nothing.
-use Rattle.std.specs.Prelude.{ℕ, Bool, true, false, cond, List, [], ◌∷◌, length, ◌==◌}
+use Rattle.std.specs.Prelude.{ℕ, Bool, true, false, cond, List, [], ◌∷◌, ◌==◌}
 use Rattle.words.specs.Lexemes.{Lexeme, feed, cut, lexeme}
 use Rattle.words.specs.Spots.{Spot, spot}
 use Rattle.words.specs.declared.cursor.Words.{Words}

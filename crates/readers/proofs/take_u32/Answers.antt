@@ -1,4 +1,4 @@
-use Rattle.std.proofs.Common.{◌≡◌, ◌-◌, ◌≤◌, length, take, drop, Some, sym, refl, ap, ◌∙◌, subst, arith, ltb-false}
+use Rattle.std.proofs.Common.{◌-◌, ◌≤◌, length, take, drop, Some, sym, ap, ◌∙◌, arith, ltb-false}
 use Rattle.readers.proofs.Steps.{number_four}
 use Rattle.readers.proofs.take_u32.Goals as goal
 

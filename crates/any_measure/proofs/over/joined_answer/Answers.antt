@@ -1,5 +1,5 @@
 -- The list joined in order is one grouping of it, and answers its plain aggregate.
-use Rattle.std.proofs.Common.{◌≡◌, length, ap, ◌∙◌, arith}
+use Rattle.std.proofs.Common.{length, ap, ◌∙◌, arith}
 use Rattle.std.proofs.lemmas.Bool.{and_parts, leb-true}
 use Rattle.any_measure.specs.Chosen.{chosen}
 use Rattle.any_measure.proofs.Plainly.{list_is_plain}

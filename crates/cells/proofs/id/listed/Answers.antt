@@ -1,5 +1,5 @@
 -- An id that is not this one is passed; past the last there is none.
-use Rattle.std.proofs.Common.{◌≡◌, ◌+◌, true, cond, drop, sym, ap, ◌∙◌}
+use Rattle.std.proofs.Common.{◌+◌, true, cond, drop, sym, ap, ◌∙◌}
 use Rattle.std.proofs.lemmas.List.{at_drop_all}
 use Rattle.cells.specs.Listed.{listed}
 use Rattle.cells.proofs.Heard.{listed_at}

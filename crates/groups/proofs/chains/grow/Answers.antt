@@ -1,6 +1,6 @@
 -- The cell is of the same group, so it stays in its chain.
-use Rattle.std.proofs.Common.{◌≡◌, get_or, set, sym, ap, ◌∙◌, arith}
-use Rattle.std.proofs.lemmas.List.{get_or-map, get_or_default, length-map}
+use Rattle.std.proofs.Common.{◌≡◌, get_or, set, sym, ap, ◌∙◌}
+use Rattle.std.proofs.lemmas.List.{get_or-map}
 use Rattle.cells.specs.Groups.{grown}
 use Rattle.groups.specs.Chains.{cells_of}
 use Rattle.groups.proofs.Links.{wrote_same}

@@ -1,6 +1,6 @@
 -- The group was found and has grown, or was not and begins.
-use Rattle.std.proofs.Common.{◌≡◌, length, sym, ◌∙◌, arith}
-use Rattle.std.proofs.lemmas.Bool.{eqb-true, eqb-false}
+use Rattle.std.proofs.Common.{length, sym, ◌∙◌, arith}
+use Rattle.std.proofs.lemmas.Bool.{eqb-false}
 use Rattle.groups.proofs.Walks.{length_live}
 use Rattle.groups.proofs.Puts.{grown_done, begun_done}
 use Rattle.groups.proofs.chains.put.Goals as goal

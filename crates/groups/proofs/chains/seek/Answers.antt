@@ -1,8 +1,8 @@
 -- The walk starts at the head of the group's bucket and goes on by the links.
-use Rattle.std.proofs.Common.{◌≡◌, ◌+◌, ◌-◌, ◌<◌, ◌≤◌, length, get_or, sym, ap, ◌∙◌, subst, true≢false as never, arith}
+use Rattle.std.proofs.Common.{◌-◌, ◌<◌, length, get_or, sym, ap, ◌∙◌, subst, true≢false as never, arith}
 use Rattle.std.proofs.lemmas.List.{get_or-map, length-map}
 use Rattle.std.proofs.lemmas.Bool.{eqb-true, eqb-false}
-use Rattle.groups.specs.Chains.{Link, cells_of, heads, nexts, buckets, live}
+use Rattle.groups.specs.Chains.{Link, cells_of, heads, buckets}
 use Rattle.groups.proofs.Walks.{walk_link, walk_on, length_cells, found_at, found_none}
 use Rattle.groups.proofs.chains.seek.Given as given
 use Rattle.groups.proofs.chains.seek.Goals as goal

@@ -1,5 +1,5 @@
 -- Head and columns make the file.
-use Rattle.std.proofs.Common.{◌≡◌, ◌++◌, sym, refl, ap, ◌∙◌, subst}
+use Rattle.std.proofs.Common.{sym, subst}
 use Rattle.hall_file.specs.Views.{FirstFile}
 use Rattle.hall_file.proofs.Forms.{Lawful}
 use Rattle.hall_file.proofs.Checks.{no_head, no_columns, few_fields, few_rows, parts, front, no_longer}

@@ -1,6 +1,5 @@
 -- A file says one thing at most.
-use Rattle.std.proofs.Common.{◌≡◌, [], ◌++◌, sym, ap, ◌∙◌}
-use Rattle.hall_file.specs.Written.{file_bytes}
+use Rattle.std.proofs.Common.{[], ◌++◌, ap}
 use Rattle.hall_file.proofs.Forms.{Lawful, one_file}
 use Rattle.hall_file.proofs.check.one_content.Given.{Over}
 use Rattle.hall_file.proofs.check.one_content.Goals as goal

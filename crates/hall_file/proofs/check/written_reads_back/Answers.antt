@@ -1,9 +1,8 @@
 -- The check shows the one content that is written so.
-use Rattle.std.proofs.Common.{◌≡◌, [], ◌++◌, Ok, Err, Result, sym, refl, ap, ◌∙◌, subst}
+use Rattle.std.proofs.Common.{◌≡◌, [], ◌++◌, Ok, Err, Result, sym, refl, ap, subst}
 use Rattle.text.specs.declared.refusal.Refusal.{Refusal}
 use Rattle.hall_file.specs.declared.view.View.{View}
-use Rattle.hall_file.specs.Written.{Content, file_bytes}
-use Rattle.hall_file.specs.Rules.{Good}
+use Rattle.hall_file.specs.Written.{file_bytes}
 use Rattle.hall_file.specs.Views.{Checked, Shows}
 use Rattle.hall_file.proofs.Forms.{Lawful, one_file}
 use Rattle.hall_file.proofs.check.written_reads_back.Given.{Over}

@@ -1,5 +1,5 @@
 -- Shape, number of groups, groups.
-use Rattle.std.proofs.Common.{◌≡◌, sym, refl, ap, ◌∙◌}
+use Rattle.std.proofs.Common.{sym, ap, ◌∙◌}
 use Rattle.readers.specs.Seen.{passed}
 use Rattle.hall_file.proofs.Forms.{Lawful, inv_shape, good_mask}
 use Rattle.hall_file.proofs.Steps.{column_no_shape, column_no_count, column_is}

@@ -1,6 +1,5 @@
 -- What one column makes of the columns left.
-use Rattle.std.proofs.Common.{◌≡◌, ℕ, sym, refl, ap, ◌∙◌, arith}
-use Rattle.readers.specs.Readers.{after, times}
+use Rattle.std.proofs.Common.{sym, refl, ap, ◌∙◌}
 use Rattle.readers.specs.Seen.{passed}
 use Rattle.readers.proofs.Steps.{after_more, after_none}
 use Rattle.hall_file.specs.Reading.{column, columns}

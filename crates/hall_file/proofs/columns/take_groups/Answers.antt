@@ -1,5 +1,5 @@
 -- What one group makes of the groups left.
-use Rattle.std.proofs.Common.{◌≡◌, ◌≤◌, sym, refl, ap, ◌∙◌, arith}
+use Rattle.std.proofs.Common.{sym, ap, ◌∙◌, arith}
 use Rattle.cells.specs.Columns.{group}
 use Rattle.readers.specs.Seen.{passed}
 use Rattle.hall_file.proofs.Forms.{Lawful, inv_group}

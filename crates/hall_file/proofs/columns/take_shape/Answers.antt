@@ -1,5 +1,5 @@
 -- Kind, measured byte and mask, each where it lies.
-use Rattle.std.proofs.Common.{◌≡◌, ◌<◌, ◌≤◌, length, get_or, sym, refl, ap, ◌∙◌, arith, ltb-false, ltb-true}
+use Rattle.std.proofs.Common.{◌<◌, ◌≤◌, length, get_or, ap, ◌∙◌, arith, ltb-false, ltb-true}
 use Rattle.readers.specs.Seen.{seen}
 use Rattle.hall_file.specs.Reading.{measured_of}
 use Rattle.hall_file.proofs.Forms.{Lawful}

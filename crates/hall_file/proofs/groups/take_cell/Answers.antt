@@ -1,5 +1,5 @@
 -- Key, rows and value, each where it lies.
-use Rattle.std.proofs.Common.{◌≡◌, ap, ◌∙◌}
+use Rattle.std.proofs.Common.{ap, ◌∙◌}
 use Rattle.cells.specs.Columns.{cell_of}
 use Rattle.readers.specs.Readers.{changed}
 use Rattle.readers.specs.Seen.{seen}

@@ -1,5 +1,5 @@
 -- The word as a signed number, where that is a row value.
-use Rattle.std.proofs.Common.{◌≡◌, Bool, true, false, Some, sym, refl, ap, ◌∙◌, subst, w32, SFits, to_z, of_z, rules}
+use Rattle.std.proofs.Common.{◌≡◌, Some, sym, ap, ◌∙◌, w32, SFits, to_z, of_z, rules}
 use Rattle.std.proofs.lemmas.Int.{to_z-of_z}
 use Rattle.measures.specs.Values.{is_row_value}
 use Rattle.readers.specs.Readers.{kept, changed, number}

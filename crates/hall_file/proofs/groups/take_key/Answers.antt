@@ -1,5 +1,5 @@
 -- The values read so far are in place; the bytes left give the others.
-use Rattle.std.proofs.Common.{◌≡◌, ◌+◌, set, ℤ, sym, refl, ap, ◌∙◌, subst, arith, w32, SFits, to_z, of_z, rules}
+use Rattle.std.proofs.Common.{◌+◌, set, sym, ap, ◌∙◌, subst, arith, w32, SFits, rules}
 use Rattle.std.proofs.lemmas.Int.{to_z-of_z}
 use Rattle.readers.specs.Seen.{seen}
 use Rattle.hall_file.proofs.Steps.{Filled, filled_none, filled_more, filled_fails, filled_all}

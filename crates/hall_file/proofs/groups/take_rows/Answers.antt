@@ -1,5 +1,5 @@
 -- The number, where it fits.
-use Rattle.std.proofs.Common.{◌≡◌, sym, ap, ◌∙◌}
+use Rattle.std.proofs.Common.{sym, ap, ◌∙◌}
 use Rattle.readers.specs.Readers.{kept, number}
 use Rattle.readers.specs.Seen.{seen}
 use Rattle.readers.proofs.Steps.{kept_yes, kept_no}

@@ -1,5 +1,5 @@
 -- Eight bytes, what they read as, and whether that is possible.
-use Rattle.std.proofs.Common.{◌≡◌, sym, refl, ap, ◌∙◌}
+use Rattle.std.proofs.Common.{ap, ◌∙◌}
 use Rattle.readers.specs.Seen.{seen}
 use Rattle.hall_file.proofs.Steps.{value_short, value_at, value_none, value_some, value_not}
 use Rattle.hall_file.proofs.groups.take_value.Goals as goal

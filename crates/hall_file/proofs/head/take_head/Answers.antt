@@ -1,7 +1,7 @@
 -- Each test that fails rules a head out; where all succeed it is there.
-use Rattle.std.proofs.Common.{◌≡◌, ℕ, ◌+◌, ◌*◌, ◌<◌, ◌≤◌, true, false, eqb, leb, length, get_or, sym, refl, ap, ◌∙◌, arith, ltb-false, ltb-true}
+use Rattle.std.proofs.Common.{◌+◌, ◌*◌, leb, get_or, sym, arith, ltb-false, ltb-true}
 use Rattle.std.proofs.lemmas.Bool.{both_ways, and_parts, and_from, le-leb, leb-true, eq-eqb, eqb-true}
-use Rattle.hall_file.proofs.Heads.{HeadAt, head_no, head_yes, rows_at}
+use Rattle.hall_file.proofs.Heads.{head_no, head_yes}
 use Rattle.hall_file.proofs.head.take_head.Goals as goal
 use Rattle.hall_file.proofs.head.take_head.Goals.{in_default-via-then-bytes-lt11, in_default-via-else-bytes-lt11+in-84+in-76+in_default-1, in_default-via-else-bytes-lt11+in-84+in_default-1, in_default-via-else-bytes-lt11+in_default-1}
 

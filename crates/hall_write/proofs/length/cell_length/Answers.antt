@@ -1,5 +1,5 @@
 -- A cell of another column adds nothing, one of this column its group.
-use Rattle.std.proofs.Common.{◌≡◌, ℕ, ◌+◌, ◌*◌, min, cond, eqb, List, [], length, sym, refl, ap, ◌∙◌, arith}
+use Rattle.std.proofs.Common.{◌≡◌, eqb, [], length, sym, ap, ◌∙◌, arith}
 use Rattle.std.proofs.lemmas.Bool.{cond-true, cond-false, eq-eqb, ne_eqb}
 use Rattle.cells.specs.Columns.{group}
 use Rattle.hall_file.specs.Written.{group_bytes}

@@ -1,5 +1,5 @@
 -- One cell at a time.
-use Rattle.std.proofs.Common.{◌≡◌, cond, eqb, length, get_or, drop, sym, refl, ap, ◌∙◌, arith}
+use Rattle.std.proofs.Common.{cond, eqb, length, ap, ◌∙◌, arith}
 use Rattle.std.proofs.lemmas.List.{drop_all}
 use Rattle.cells.specs.Columns.{column}
 use Rattle.hall_write.proofs.Lengths.{count_at}

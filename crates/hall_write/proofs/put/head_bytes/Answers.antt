@@ -1,5 +1,5 @@
 -- The numbers in little-endian bytes.
-use Rattle.std.proofs.Common.{◌≡◌, get_or, sym, refl, ap, ◌∙◌}
+use Rattle.std.proofs.Common.{get_or, ap, ◌∙◌}
 use Rattle.hall_write.proofs.Overs.{le_four}
 use Rattle.hall_write.proofs.put.head_bytes.Goals as goal
 

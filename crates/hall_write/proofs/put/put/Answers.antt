@@ -1,5 +1,5 @@
 -- A copy into the part from a place on.
-use Rattle.std.proofs.Common.{◌≡◌, refl}
+use Rattle.std.proofs.Common.{refl}
 use Rattle.hall_write.proofs.Overs.{over_put}
 use Rattle.hall_write.proofs.put.put.Goals as goal
 

@@ -1,6 +1,5 @@
 -- Shape and number of groups, then the groups.
-use Rattle.std.proofs.Common.{◌≡◌, ℕ, ◌+◌, ◌*◌, List, ◌++◌, length, sym, refl, ap, ◌∙◌, subst, arith, rules}
-use Rattle.std.proofs.lemmas.List.{append_assoc, length-append}
+use Rattle.std.proofs.Common.{◌≡◌, ◌+◌, ◌++◌, length, ap, ◌∙◌, arith}
 use Rattle.measures.specs.Bytes.{bytes_of}
 use Rattle.cells.specs.Columns.{column}
 use Rattle.hall_file.specs.Written.{shape_bytes, groups_bytes}

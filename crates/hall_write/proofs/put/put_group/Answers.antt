@@ -1,10 +1,9 @@
 -- Key, rows, value.
-use Rattle.std.proofs.Common.{◌≡◌, ℕ, ◌+◌, ◌*◌, ◌≤◌, min, List, ◌++◌, length, sym, refl, ap, ◌∙◌, subst, arith, rules}
-use lib.Count.{ones}
+use Rattle.std.proofs.Common.{◌≡◌, ◌+◌, ◌++◌, length, ap, ◌∙◌, arith}
 use Rattle.std.proofs.lemmas.List.{append_assoc, length-append}
 use Rattle.measures.specs.Bytes.{bytes_of}
 use Rattle.cells.specs.Columns.{group}
-use Rattle.hall_file.specs.Written.{key_bytes, width, group_bytes}
+use Rattle.hall_file.specs.Written.{key_bytes, width}
 use Rattle.hall_file.proofs.Looks.{key_length, group_size}
 use Rattle.hall_write.specs.Over.{over}
 use Rattle.hall_write.proofs.Overs.{Wrote, wrote_more}

@@ -1,5 +1,5 @@
 -- One column at a time.
-use Rattle.std.proofs.Common.{◌≡◌, ℕ, ◌+◌, ◌≤◌, length, get_or, drop, sym, refl, ap, ◌∙◌, subst, arith}
+use Rattle.std.proofs.Common.{◌≡◌, ◌+◌, length, get_or, ap, ◌∙◌, arith}
 use Rattle.hall_file.specs.Written.{column_bytes}
 use Rattle.hall_write.specs.Over.{over}
 use Rattle.hall_write.proofs.Overs.{doing_all, doing_room, doing_more, doing_end}

@@ -1,6 +1,5 @@
 -- The head and then the columns, where there is room for both.
-use Rattle.std.proofs.Common.{◌≡◌, ℕ, ◌+◌, ◌≤◌, List, ◌++◌, length, drop, sym, refl, ap, ◌∙◌, subst, arith}
-use Rattle.std.proofs.lemmas.List.{length-append}
+use Rattle.std.proofs.Common.{◌≡◌, ◌+◌, ◌++◌, length, drop, sym, refl, ap, ◌∙◌, arith}
 use Rattle.hall_file.specs.Written.{head_bytes, columns_bytes, file_bytes}
 use Rattle.hall_write.specs.Over.{over}
 use Rattle.hall_write.specs.Laid.{laid, content_of}

@@ -1,5 +1,5 @@
 -- The number is taken apart byte by byte, and no byte is left.
-use Rattle.std.proofs.Common.{◌≡◌, [], drop, refl, ap, arith}
+use Rattle.std.proofs.Common.{◌≡◌, drop, ap, arith}
 use Rattle.std.proofs.lemmas.List.{drop_all}
 use Rattle.measures.specs.Bytes.{word_of}
 use Rattle.measures.specs.Words.{word_of_drop}

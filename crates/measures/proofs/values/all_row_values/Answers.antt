@@ -1,5 +1,5 @@
 -- The rest of the list decides, one value at a time.
-use Rattle.std.proofs.Common.{◌≡◌, get_or, drop, pos, sym, ap, ◌∙◌, arith, w32, SFits, rules}
+use Rattle.std.proofs.Common.{get_or, pos, sym, ap, ◌∙◌, arith, w32, SFits, rules}
 use Rattle.std.proofs.lemmas.Int.{to_z-of_z}
 use Rattle.std.proofs.lemmas.List.{drop_all}
 use Rattle.measures.specs.Values.{all_row_values}

@@ -1,6 +1,6 @@
-use Rattle.std.proofs.Common.{◌≡◌, false, length, sym, refl, ap, ◌∙◌, arith}
+use Rattle.std.proofs.Common.{false, length, sym, refl, ap, ◌∙◌, arith}
 use Rattle.words.specs.Cutting.{to_come}
-use Rattle.words.specs.Tables.{texts, place}
+use Rattle.words.specs.Tables.{place}
 use Rattle.plan.specs.Lines.{declared}
 use Rattle.plan.specs.Machine.{measured_word, measured_at, measured}
 use Rattle.plan.specs.Promises.{onto}

@@ -1,4 +1,4 @@
-use Rattle.std.proofs.Common.{◌≡◌, length, sym, refl, ap, ◌∙◌, arith}
+use Rattle.std.proofs.Common.{length, sym, refl, ap, ◌∙◌, arith}
 use Rattle.words.specs.Cutting.{to_come}
 use Rattle.plan.specs.Lines.{kind_of}
 use Rattle.plan.specs.Machine.{measure, named}

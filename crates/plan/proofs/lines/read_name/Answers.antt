@@ -1,4 +1,4 @@
-use Rattle.std.proofs.Common.{◌≡◌, true, ltb, length, is_some, sym, refl, ap, ◌∙◌, arith}
+use Rattle.std.proofs.Common.{◌≡◌, true, ltb, length, is_some, sym, ap, ◌∙◌, arith}
 use Rattle.words.specs.Cutting.{to_come}
 use Rattle.words.specs.Tables.{texts}
 use Rattle.words.proofs.Tabling.{added_more}

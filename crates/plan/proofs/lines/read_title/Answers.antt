@@ -1,4 +1,4 @@
-use Rattle.std.proofs.Common.{◌≡◌, false, ltb, length, sym, refl, ap, ◌∙◌, arith}
+use Rattle.std.proofs.Common.{false, ltb, length, sym, ap, ◌∙◌, arith}
 use Rattle.words.specs.Cutting.{to_come}
 use Rattle.std.proofs.lemmas.Bool.{ltb-true}
 use Rattle.plan.specs.Lines.{declared}

@@ -1,4 +1,4 @@
-use Rattle.std.proofs.Common.{◌≡◌, [], length, None, sym, refl, ap, ◌∙◌, arith}
+use Rattle.std.proofs.Common.{length, sym, refl, ap, ◌∙◌, arith}
 use Rattle.words.specs.Cutting.{to_come}
 use Rattle.conditions.specs.Postfix.{asked, trees}
 use Rattle.plan.specs.Lines.{following}

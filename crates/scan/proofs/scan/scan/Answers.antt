@@ -3,7 +3,7 @@ use Rattle.std.proofs.Common.{◌≡◌, true, false, length, Some, Ok, sym, ap,
 use Rattle.std.specs.List.{list_all}
 use Rattle.std.proofs.lemmas.Bool.{cond-true, cond-false}
 use Rattle.words.specs.Tables.{texts}
-use Rattle.scan.specs.Scans.{rows_of, is_row, answered, columns, column_at}
+use Rattle.scan.specs.Scans.{rows_of, is_row, answered}
 use Rattle.scan.proofs.Gathering.{scanned_by_ok, column_there, column_past}
 use Rattle.scan.proofs.scan.scan.Goals as goal
 

@@ -1,5 +1,5 @@
 -- What was gathered answers; it fits 32 bits, since the rows are not too many.
-use Rattle.std.proofs.Common.{◌≡◌, length, Ok, sym, ap, ◌∙◌, arith, ltb-false}
+use Rattle.std.proofs.Common.{length, Ok, sym, ap, ◌∙◌, arith, ltb-false}
 use Rattle.std.proofs.lemmas.Bool.{cond-true, cond-false}
 use Rattle.scan.specs.Scans.{rows_of}
 use Rattle.scan.proofs.scan.scan_column.Goals as goal

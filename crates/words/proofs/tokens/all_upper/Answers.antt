@@ -1,4 +1,4 @@
-use Rattle.std.proofs.Common.{sym, ◌∙◌}
+use Rattle.std.proofs.Common.{sym}
 use Rattle.std.specs.Char.{is_ascii_uppercase}
 use Rattle.words.proofs.Spelling.{all_bad, all_more, all_end}
 use Rattle.words.proofs.tokens.all_upper.Goals as goal

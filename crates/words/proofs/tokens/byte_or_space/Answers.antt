@@ -1,4 +1,4 @@
-use Rattle.std.proofs.Common.{sym, rules}
+use Rattle.std.proofs.Common.{sym}
 use Rattle.std.proofs.lemmas.List.{get_or_past, get_or_default}
 use Rattle.words.proofs.tokens.byte_or_space.Goals as goal
 

@@ -1,5 +1,5 @@
 -- The column's answer comes first.
-use Rattle.std.proofs.Common.{◌≡◌, Less, Equal, Greater, ap, ◌∙◌}
+use Rattle.std.proofs.Common.{Less, Equal, Greater, ap, ◌∙◌}
 use Rattle.std.specs.Ordering.{ordering_then}
 use Rattle.cells.specs.Order.{order, key_order}
 use Rattle.cells.proofs.Ordered.{column_rank}

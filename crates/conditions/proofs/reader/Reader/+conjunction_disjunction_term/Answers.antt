@@ -1,9 +1,9 @@
-use Rattle.std.proofs.Common.{◌≡◌, ◌+◌, ◌-◌, ◌<◌, ◌≤◌, false, List, [], ◌∷◌, Some, None, sym, refl, ap, ◌∙◌, arith}
+use Rattle.std.proofs.Common.{◌≡◌, ◌+◌, ◌-◌, ◌<◌, [], ◌∷◌, Some, None, sym, refl, ap, ◌∙◌, arith}
 use Rattle.std.proofs.lemmas.Result.{err_from_is_err_and, IfOk-from_err}
 use Rattle.conditions.specs.Machine.{along, after, settled, deep, denied, inside}
 use Rattle.conditions.specs.Postfix.{tree, below}
 use Rattle.conditions.specs.Promises.{rest, looks, opened}
-use Rattle.conditions.proofs.Moves.{fails, two, stays, joint_falls, denies, enters, denied_too_deep, bracket_too_deep, plainly, joins_and, joins_or, closes, shuts, not_closed}
+use Rattle.conditions.proofs.Moves.{fails, two, stays, denies, enters, denied_too_deep, bracket_too_deep, plainly, joins_and, joins_or, closes, shuts, not_closed}
 use Rattle.conditions.proofs.Growth.{leaf_grown, denial_grown, bracket_grown, both_grown, either_grown, same_grown}
 use Rattle.conditions.proofs.reader.Reader.+conjunction_disjunction_term.Goals as goal
 

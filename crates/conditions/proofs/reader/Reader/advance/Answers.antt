@@ -1,4 +1,4 @@
-use Rattle.std.proofs.Common.{◌≡◌, length, sym, refl, ap, ◌∙◌, arith}
+use Rattle.std.proofs.Common.{length, sym, ap, arith}
 use Rattle.words.specs.Cutting.{to_come}
 use Rattle.conditions.specs.Machine.{run}
 use Rattle.conditions.specs.Promises.{rest, onto, seen_by}

@@ -1,6 +1,6 @@
-use Rattle.std.proofs.Common.{◌≡◌, [], ◌∷◌, Err, sym, refl, ap, ◌∙◌, arith}
+use Rattle.std.proofs.Common.{[], ◌∷◌, Err, sym, ap, ◌∙◌, arith}
 use Rattle.std.proofs.lemmas.Result.{err_from_is_err_and, IfOk-from_err}
-use Rattle.conditions.specs.Machine.{accepted, refused}
+use Rattle.conditions.specs.Machine.{accepted}
 use Rattle.conditions.specs.Postfix.{tree}
 use Rattle.conditions.specs.Promises.{looks, outcome, seen_by}
 use Rattle.conditions.proofs.Moves.{ended, not_ended}

@@ -1,6 +1,6 @@
-use Rattle.std.proofs.Common.{true, false, is_some, sym, refl, ap, ◌∙◌}
+use Rattle.std.proofs.Common.{is_some, sym, refl, ap}
 use Rattle.conditions.specs.Promises.{onto, seen_by}
-use Rattle.conditions.proofs.Moves.{noted_more, noted_same, noted_none, stays}
+use Rattle.conditions.proofs.Moves.{noted_more, stays}
 use Rattle.conditions.proofs.reader.Reader.note.Goals as goal
 
 pub returns : goal.returns

@@ -1,4 +1,4 @@
-use Rattle.std.proofs.Common.{◌<◌, ◌≤◌, ◌∷◌, length, sym, refl, ap, ◌∙◌, arith, rules}
+use Rattle.std.proofs.Common.{◌<◌, ◌≤◌, ◌∷◌, length, sym, ap, ◌∙◌, arith, rules}
 use Rattle.conditions.specs.Meaning.{judge, stacked}
 use Rattle.conditions.proofs.Stacks.{heap, up, turned, not_turned, met, joined, unmet, unjoined, wrapped}
 use Rattle.conditions.proofs.truths.Truths.judge.Goals as goal

@@ -1,5 +1,5 @@
 -- The cell that the walk finds is the group.
-use Rattle.std.proofs.Common.{◌≡◌, length, Some, None, vec_items, sym, ap, ◌∙◌, subst, arith}
+use Rattle.std.proofs.Common.{length, Some, None, vec_items, sym, ap, ◌∙◌, subst, arith}
 use Rattle.cells.proofs.InOrder.{in_order_none}
 use Rattle.groups.specs.Chains.{Chained, Found, live}
 use Rattle.groups.proofs.Holding.{lookup_found}

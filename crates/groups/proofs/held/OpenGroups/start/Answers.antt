@@ -1,6 +1,5 @@
 -- No cell is live, and every bucket is empty.
-use Rattle.std.proofs.Common.{◌≡◌, length, vec_items, sym, refl, ap, ◌∙◌, subst, arith}
-use Rattle.std.specs.Vec.{with_items}
+use Rattle.std.proofs.Common.{◌≡◌, length, sym, refl, ap, ◌∙◌, subst, arith}
 use Rattle.std.proofs.lemmas.List.{with_items_is}
 use Rattle.groups.specs.Chains.{Linked, cells_of}
 use Rattle.groups.proofs.held.OpenGroups.start.Goals as goal

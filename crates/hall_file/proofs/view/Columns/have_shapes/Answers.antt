@@ -1,5 +1,5 @@
 -- One column and one shape at a time.
-use Rattle.std.proofs.Common.{◌≡◌, ℕ, Bool, true, false, leb, sym, refl, ap, ◌∙◌, arith}
+use Rattle.std.proofs.Common.{false, leb, sym, refl, ◌∙◌}
 use Rattle.std.proofs.lemmas.Bool.{leb-true, le-leb, both_ways}
 use Rattle.hall_file.proofs.Compares.{left_all, too_few, unlike, left_more, at_the_end}
 use Rattle.hall_file.proofs.view.Columns.have_shapes.Goals as goal

@@ -1,12 +1,11 @@
 -- The first column lies at the front, and the others right after its groups.
-use Rattle.std.proofs.Common.{◌≡◌, ℕ, ◌+◌, ◌-◌, ◌*◌, ◌<◌, ◌≤◌, List, [], ◌++◌, length, take, drop, Some, None, sym, refl, ap, ◌∙◌, subst, arith}
-use Rattle.std.proofs.lemmas.List.{nil_from_length, length-append, take_at, drop_at, take_rest}
+use Rattle.std.proofs.Common.{◌<◌, List, length, refl, ap, ◌∙◌, arith}
+use Rattle.std.proofs.lemmas.List.{nil_from_length}
 use Rattle.readers.specs.Readers.{number}
 use Rattle.readers.proofs.Inverses.{none_some}
 use Rattle.hall_file.specs.declared.view.Columns.{Columns}
-use Rattle.hall_file.specs.Written.{Column, group_length, groups_bytes, columns_bytes}
-use Rattle.hall_file.specs.Reading.{shape}
-use Rattle.hall_file.specs.Views.{ShowsColumns, FirstColumn}
+use Rattle.hall_file.specs.Written.{Column}
+use Rattle.hall_file.specs.Views.{ShowsColumns}
 use Rattle.hall_file.proofs.Forms.{Lawful}
 use Rattle.hall_file.proofs.Looks.{FirstRead, first_read, cut, some_pair}
 use Rattle.hall_file.proofs.view.Columns.split_first.Given.{Over}

@@ -1,4 +1,4 @@
-use Rattle.std.proofs.Common.{◌≡◌, length, set, sym, refl, ap, ◌∙◌, arith}
+use Rattle.std.proofs.Common.{◌≡◌, length, set, refl, ap, ◌∙◌, arith}
 use Rattle.words.specs.Tables.{texts}
 use Rattle.words.proofs.Tabling.{added_more}
 use Rattle.plan.specs.Drafts.{columns_of, paired}

@@ -1,5 +1,4 @@
-use Rattle.std.proofs.Common.{ap}
-use Rattle.plan.specs.Drafts.{columns_of, paired}
+use Rattle.plan.specs.Drafts.{columns_of}
 use Rattle.plan.proofs.Pairing.{paired_none}
 use Rattle.plan.proofs.columns.Plan+AnyMeasure.empty.Goals as goal
 

@@ -1,4 +1,4 @@
-use Rattle.std.proofs.Common.{◌≡◌, eqb, drop, sym, refl, ap, ◌∙◌, arith}
+use Rattle.std.proofs.Common.{eqb, drop, sym, ap, ◌∙◌, arith}
 use Rattle.std.proofs.lemmas.List.{take_rest}
 use Rattle.words.specs.Spots.{spot, past}
 use Rattle.words.specs.Cutting.{spell, ahead, next, later}

@@ -1,4 +1,4 @@
-use Rattle.std.proofs.Common.{◌≡◌, ℕ, List, sym, refl, ap, ◌∙◌, Bor}
+use Rattle.std.proofs.Common.{ℕ, List, sym, refl, ap, ◌∙◌, Bor}
 use Rattle.std.proofs.lemmas.List.{take_all}
 use Rattle.words.specs.Cutting.{lexemes, ahead}
 use Rattle.words.proofs.cursor.Words.of.Goals as goal

@@ -1,4 +1,4 @@
-use Rattle.std.proofs.Common.{◌≡◌, eqb, sym, refl, ap, ◌∙◌, arith}
+use Rattle.std.proofs.Common.{eqb, sym, refl, ap, ◌∙◌, arith}
 use Rattle.words.specs.Lexemes.{lexeme}
 use Rattle.words.specs.Cutting.{next}
 use Rattle.words.proofs.Spelling.{ahead_none}

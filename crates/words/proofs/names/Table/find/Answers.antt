@@ -1,4 +1,4 @@
-use Rattle.std.proofs.Common.{◌≡◌, min, sym, ◌∙◌, arith, rules}
+use Rattle.std.proofs.Common.{min, sym, ◌∙◌, arith, rules}
 use Rattle.words.specs.Tables.{texts}
 use Rattle.words.proofs.Tabling.{hit, miss, past}
 use Rattle.words.proofs.names.Table.find.Goals as goal
