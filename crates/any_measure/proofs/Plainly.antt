@@ -6,7 +6,7 @@ use Rattle.std.proofs.lemmas.Bool.{eqb-true, leb-true, and_parts}
 use Rattle.std.proofs.lemmas.Bool.Decides.{nat_tests}
 use Rattle.std.proofs.lemmas.Int.{clamps}
 use Rattle.std.specs.Int.{int_min, int_max}
-use Rattle.std.specs.List.{ContainsAt as Has, AllByRecursion as All}
+use Rattle.std.specs.List.{ContainsAt as Has, AllByRecursion}
 use Rattle.measures.specs.declared.answer.Answer.{Answer}
 use Rattle.measures.specs.declared.answer.Answer.TheVariants.{Number, NoRows}
 use Rattle.any_measure.specs.declared.any.AnyMeasure.{AnyMeasure}
@@ -23,7 +23,7 @@ use Rattle.measures.proofs.Rows.{all_row_values_true}
 use Rattle.measures.specs.Laws.{counted_adds, total_adds}
 
 -- the two parts of a grouping that is in bounds are in bounds
-parts_all : (P : ℤ → Type 0) (xs ys : List ℤ) → All P (xs ++ ys) → All P xs × All P ys
+parts_all : (P : ℤ → Type 0) (xs ys : List ℤ) → AllByRecursion P (xs ++ ys) → AllByRecursion P xs × AllByRecursion P ys
 parts_all P [] ys h = (tt, h)
 parts_all P (x ∷ xs) ys h = let (a, b) = parts_all P xs ys h.1 in ((h.0, a), b)
 
@@ -44,11 +44,11 @@ sum_of_append : (xs ys : List ℤ) → sum_of (xs ++ ys) ≡ sum_of xs +ℤ sum_
 sum_of_append [] ys = omega (arith, ints)
 sum_of_append (x ∷ xs) ys = omega (arith, ints, sum_of_append xs ys)
 
-sum_of_bound : (vs : List ℤ) → All RowValue vs → nat_abs (sum_of vs) ≤ greatest_value * length vs
+sum_of_bound : (vs : List ℤ) → AllByRecursion RowValue vs → nat_abs (sum_of vs) ≤ greatest_value * length vs
 sum_of_bound [] h = omega arith
 sum_of_bound (v ∷ vs) h = omega (arith, ints, h.0, sum_of_bound vs h.1)
 
-adds : (k : ℕ) (answer : ℤ → ℕ → Answer) (g : Grouping) → All RowValue (values g) → length (values g) ≤ most_rows → joined (adding k answer) g ≡ sum_of (values g)
+adds : (k : ℕ) (answer : ℤ → ℕ → Answer) (g : Grouping) → AllByRecursion RowValue (values g) → length (values g) ≤ most_rows → joined (adding k answer) g ≡ sum_of (values g)
 adds k answer nothing all h = refl
 adds k answer (row v) all h = omega (arith, ints)
 adds k answer (both g h) all small =
@@ -104,9 +104,9 @@ module _ (pick : ℤ → ℤ → ℤ) (R : ℤ → ℤ → Type 0) (is_one : (a 
   picked_before_first v [] = subst (λ x. R x v) (⊎_elim (λ e. e) (λ e. e) (is_one v v)) (left v v)
   picked_before_first v (w ∷ ws) = through _ _ _ (picked_before_first (pick v w) ws) (left v w)
 
-  picked_before_all : (v : ℤ) (vs : List ℤ) → All (λ w. R (fold pick v vs) w) (v ∷ vs)
+  picked_before_all : (v : ℤ) (vs : List ℤ) → AllByRecursion (λ w. R (fold pick v vs) w) (v ∷ vs)
   picked_before_all v vs = (picked_before_first v vs, rest v vs) where
-    rest : (v : ℤ) (vs : List ℤ) → All (λ w. R (fold pick v vs) w) vs
+    rest : (v : ℤ) (vs : List ℤ) → AllByRecursion (λ w. R (fold pick v vs) w) vs
     rest v [] = tt
     rest v (w ∷ ws) = (through _ _ _ (picked_before_first (pick v w) ws) (right v w), rest (pick v w) ws)
 
@@ -214,5 +214,5 @@ list_is_plain k vs rows =
     let (few, all) = and_parts _ _ rows in
     let g = in_a_row nothing vs in
     let e = values_in_a_row nothing vs in
-    let p = chosen_plain k g (subst (All RowValue) (sym e) (all_row_values_true vs all)) (subst (λ l. length l ≤ most_rows) (sym e) (leb-true (length vs) most_rows few)) in
+    let p = chosen_plain k g (subst (AllByRecursion RowValue) (sym e) (all_row_values_true vs all)) (subst (λ l. length l ≤ most_rows) (sym e) (leb-true (length vs) most_rows few)) in
     ap (λ a. (chosen k).answer a (length vs)) (sym (joined_in_a_row (chosen k) nothing vs)) ∙ ap (λ l. (chosen k).answer (joined (chosen k) g) (length l)) (sym e) ∙ p ∙ ap (plain k) e

@@ -1,7 +1,7 @@
 -- Rows joined in any grouping answer the plain aggregate: the statement. Assumes nothing.
 use Rattle.std.specs.Prelude.{◌≡◌, ℕ, ◌+◌, ◌^◌, ◌<◌, ◌≤◌, List, [], ◌∷◌, ◌++◌, length, ℤ, ◌+ℤ◌, FitsSigned}
 use Rattle.std.specs.Int.{w64}
-use Rattle.std.specs.List.{AllByRecursion as All}
+use Rattle.std.specs.List.{AllByRecursion}
 use Rattle.measures.specs.Values.{RowValue, most_rows}
 use Rattle.measures.specs.Meaning.{Meaning, Possible}
 use Rattle.measures.specs.Kinds.{count, sum, least, greatest, mean, counted, total}
@@ -31,7 +31,7 @@ joined m (both g h) = m.join (joined m g) (joined m h)
 
 -- joined in any grouping, at most 1,000,000 row values answer their plain aggregate
 abbrev pub AnswersPlainly : {V : Type 0} → Meaning V Answer → (List ℤ → Answer) → Type 0
-AnswersPlainly m aggregate = (g : Grouping) → All RowValue (values g) → length (values g) ≤ most_rows → m.answer (joined m g) (length (values g)) ≡ aggregate (values g)
+AnswersPlainly m aggregate = (g : Grouping) → AllByRecursion RowValue (values g) → length (values g) ≤ most_rows → m.answer (joined m g) (length (values g)) ≡ aggregate (values g)
 
 -- The five kinds are what their names say: each answers its plain aggregate, by itself and where it
 -- is picked at run time; least and greatest are what they should be; and a join that cannot hold its

@@ -1,7 +1,7 @@
 -- The plain aggregates of a list of whole numbers, said without any join. Assumes nothing.
 use Rattle.std.specs.Prelude.{Bool, cond, ◌&&◌, List, [], ◌∷◌, length, ℤ, pos, ◌+ℤ◌, ◌≤ℤ◌, Some, None, fold, Option, nat_le}
 use Rattle.std.specs.Int.{int_min, int_max}
-use Rattle.std.specs.List.{ContainsAt as Has, AllByRecursion as All}
+use Rattle.std.specs.List.{ContainsAt as Has, AllByRecursion}
 use Rattle.measures.specs.Values.{all_row_values, most_rows}
 use Rattle.measures.specs.declared.answer.Answer.{Answer}
 use Rattle.measures.specs.declared.answer.Answer.TheVariants.{Number, Mean, NoRows}
@@ -43,9 +43,9 @@ plain_of_rows k vs = cond (are_measured_rows vs) (Some (plain k vs)) None
 -- m is the least of a list: it is in it, and nothing in it is smaller
 pub record IsLeast (vs : List ℤ) (m : ℤ) : Type 0 where
   pub in_it : Has vs m
-  pub none_smaller : All (λ v. m ≤ℤ v) vs
+  pub none_smaller : AllByRecursion (λ v. m ≤ℤ v) vs
 
 -- m is the greatest of a list: it is in it, and nothing in it is larger
 pub record IsGreatest (vs : List ℤ) (m : ℤ) : Type 0 where
   pub in_it : Has vs m
-  pub none_larger : All (λ v. v ≤ℤ m) vs
+  pub none_larger : AllByRecursion (λ v. v ≤ℤ m) vs

@@ -1,6 +1,6 @@
 -- The one list of groups, column by column. Assumes nothing.
 use Rattle.std.proofs.Common.{◌≡◌, ℕ, zero, suc, ◌+◌, ◌<◌, ◌≤◌, Bool, true, false, cond, eqb, List, [], ◌∷◌, ◌++◌, map, Ordering, Less, Equal, Greater, sym, refl, ap, ◌∙◌, arith}
-use Rattle.std.specs.List.{AllByRecursion as All}
+use Rattle.std.specs.List.{AllByRecursion}
 use Rattle.std.proofs.ByRecursion.{All-weaker}
 use Rattle.std.proofs.lemmas.Bool.{eq-eqb, eqb-true, eqb-false}
 use Rattle.cells.specs.declared.cell.Cell.{Cell}
@@ -25,7 +25,7 @@ module _ {V : Type 0} (k : ℕ) where
   column_no c cs e = ap (λ b. cond b (group c ∷ column k cs) (column k cs)) e
 
   -- all of later columns
-  column_none : (cs : List (Cell V)) → All (λ c. k < c.id.column) cs → column k cs ≡ []
+  column_none : (cs : List (Cell V)) → AllByRecursion (λ c. k < c.id.column) cs → column k cs ≡ []
   column_none [] h = refl
   column_none (c ∷ cs) h = column_no c cs (differs _ _ (λ e. omega (arith, e, h.0))) ∙ column_none cs h.1
 
@@ -45,7 +45,7 @@ module _ {V : Type 0} (k : ℕ) where
     put_group_head g gs r e = ap (λ o. among o (group x ∷ g ∷ gs) (joined f (group x) g ∷ gs) (g ∷ put_group f (group x) gs)) e
 
     -- before all of its column
-    put_group_first : x.id.column ≡ k → (cs : List (Cell V)) → All (λ d. order x.id d.id ≡ Less) cs → put_group f (group x) (column k cs) ≡ group x ∷ column k cs
+    put_group_first : x.id.column ≡ k → (cs : List (Cell V)) → AllByRecursion (λ d. order x.id d.id ≡ Less) cs → put_group f (group x) (column k cs) ≡ group x ∷ column k cs
     put_group_first e [] h = refl
     put_group_first e (c ∷ cs) h = at (eqb c.id.column k) refl (put_group_first e cs h.1) where
       at : (b : Bool) → eqb c.id.column k ≡ b → put_group f (group x) (column k cs) ≡ group x ∷ column k cs → put_group f (group x) (cond b (group c ∷ column k cs) (column k cs)) ≡ group x ∷ cond b (group c ∷ column k cs) (column k cs)
@@ -85,7 +85,7 @@ module _ {V : Type 0} where
       let rest = columns_later (suc k) n c cs (omega arith) in
       cc
 
-  flat_cons : (n k : ℕ) (c : Cell V) (cs : List (Cell V)) → k ≤ c.id.column → c.id.column < k + n → All (λ d. c.id.column ≤ d.id.column) cs → flat k (columns k n (c ∷ cs)) ≡ c ∷ flat k (columns k n cs)
+  flat_cons : (n k : ℕ) (c : Cell V) (cs : List (Cell V)) → k ≤ c.id.column → c.id.column < k + n → AllByRecursion (λ d. c.id.column ≤ d.id.column) cs → flat k (columns k n (c ∷ cs)) ≡ c ∷ flat k (columns k n cs)
   flat_cons zero k c cs low high h = absurd (omega arith)
   flat_cons (suc n) k c cs low high h = at (eqb c.id.column k) refl (λ lt. flat_cons n (suc k) c cs lt (omega arith) h) where
     at : (b : Bool) → eqb c.id.column k ≡ b → (suc k ≤ c.id.column → flat (suc k) (columns (suc k) n (c ∷ cs)) ≡ c ∷ flat (suc k) (columns (suc k) n cs)) → flat k (columns k (suc n) (c ∷ cs)) ≡ c ∷ flat k (columns k (suc n) cs)
@@ -110,7 +110,7 @@ module _ {V : Type 0} where
           later lt le = omega arith
 
   -- groups of n columns in order are those of each column, one column after the other
-  pub flat_columns : (n : ℕ) (cs : List (Cell V)) → Sorted cs → All (λ c. c.id.column < n) cs → flat 0 (columns 0 n cs) ≡ cs
+  pub flat_columns : (n : ℕ) (cs : List (Cell V)) → Sorted cs → AllByRecursion (λ c. c.id.column < n) cs → flat 0 (columns 0 n cs) ≡ cs
   flat_columns n [] s h = none n 0 where
     none : (n k : ℕ) → flat {V = V} k (columns k n []) ≡ []
     none zero k = refl

@@ -1,6 +1,6 @@
 -- What contributions come to, whatever their order. Assumes nothing.
 use Rattle.std.proofs.Common.{◌≡◌, ℕ, ◌+◌, ◌<◌, ◌≤◌, Bool, true, false, cond, not, eqb, ◌⊎◌, List, [], ◌∷◌, length, get_or, drop, is_some, Some, Decides, Ordering, Less, Equal, Greater, sym, refl, ap, ◌∙◌, subst, inl, inr, true≢false, arith}
-use Rattle.std.specs.List.{AllByRecursion as All}
+use Rattle.std.specs.List.{AllByRecursion}
 use Rattle.std.proofs.lemmas.List.{at_drop_more}
 use Rattle.std.proofs.ByRecursion.{all_from_every}
 use Rattle.std.proofs.lemmas.Bool.{eq-eqb}
@@ -68,12 +68,12 @@ module _ {V A : Type 0} (ms : ℕ → Meaning V A) where
     fewer k false e = let h = ap (λ b. rows_of (cond b (x ∷ came_in k xs) (came_in k xs))) e in omega (arith, f.few k)
 
   -- what came for a group is proper by the measure of its column
-  proper_for : (p : GroupId) (xs : List (Cell V)) → All (Proper ms) xs → All (λ y. (1 ≤ y.rows) × Possible (ms p.column) y.value y.rows) (came_for p xs)
+  proper_for : (p : GroupId) (xs : List (Cell V)) → AllByRecursion (Proper ms) xs → AllByRecursion (λ y. (1 ≤ y.rows) × Possible (ms p.column) y.value y.rows) (came_for p xs)
   proper_for p [] h = tt
   proper_for p (x ∷ xs) h = at (alike p x.id) (proper_for p xs h.1) where
-    at : (p ≡ x.id) ⊎ (p ≡ x.id → ⊥) → All (λ y. (1 ≤ y.rows) × Possible (ms p.column) y.value y.rows) (came_for p xs) → All (λ y. (1 ≤ y.rows) × Possible (ms p.column) y.value y.rows) (came_for p (x ∷ xs))
-    at (inl e) t = subst (All (λ y. (1 ≤ y.rows) × Possible (ms p.column) y.value y.rows)) (sym (came_yes p x xs e)) ((h.0.0, ap (λ q. (ms q.column).possible x.value x.rows) e ∙ h.0.1), t)
-    at (inr ne) t = subst (All (λ y. (1 ≤ y.rows) × Possible (ms p.column) y.value y.rows)) (sym (came_no p x xs ne)) t
+    at : (p ≡ x.id) ⊎ (p ≡ x.id → ⊥) → AllByRecursion (λ y. (1 ≤ y.rows) × Possible (ms p.column) y.value y.rows) (came_for p xs) → AllByRecursion (λ y. (1 ≤ y.rows) × Possible (ms p.column) y.value y.rows) (came_for p (x ∷ xs))
+    at (inl e) t = subst (AllByRecursion (λ y. (1 ≤ y.rows) × Possible (ms p.column) y.value y.rows)) (sym (came_yes p x xs e)) ((h.0.0, ap (λ q. (ms q.column).possible x.value x.rows) e ∙ h.0.1), t)
+    at (inr ne) t = subst (AllByRecursion (λ y. (1 ≤ y.rows) × Possible (ms p.column) y.value y.rows)) (sym (came_no p x xs ne)) t
 
   sorted_heard : (xs : List (Cell V)) → Sorted (heard ms xs)
   sorted_heard [] = tt
@@ -82,7 +82,7 @@ module _ {V A : Type 0} (ms : ℕ → Meaning V A) where
 -- ---- one measure
 
 module _ {V A : Type 0} (m : Meaning V A) (laws : Properties m) where
-  join_possible : (ys : List (Cell V)) → All (λ y. (1 ≤ y.rows) × Possible m y.value y.rows) ys → rows_of ys ≤ most_rows → Possible m (join_of m ys) (rows_of ys)
+  join_possible : (ys : List (Cell V)) → AllByRecursion (λ y. (1 ≤ y.rows) × Possible m y.value y.rows) ys → rows_of ys ≤ most_rows → Possible m (join_of m ys) (rows_of ys)
   join_possible [] h le = laws.none_for_no_rows
   join_possible (y ∷ ys) h le = laws.join_is_possible y.value (join_of m ys) y.rows (rows_of ys) h.0.1 (join_possible ys h.1 (omega arith)) le
 
@@ -97,7 +97,7 @@ module _ {V A : Type 0} (m : Meaning V A) (laws : Properties m) where
       ap (λ n. Some (record { id = p; rows = n; value = m.join x.value (join_of m (y ∷ ys)) })) rows
 
   -- two contributions in either order
-  total_swap : (p : GroupId) (x y : Cell V) (ys : List (Cell V)) → All (λ y. (1 ≤ y.rows) × Possible m y.value y.rows) (x ∷ y ∷ ys) → rows_of (x ∷ y ∷ ys) ≤ most_rows → total m p (x ∷ y ∷ ys) ≡ total m p (y ∷ x ∷ ys)
+  total_swap : (p : GroupId) (x y : Cell V) (ys : List (Cell V)) → AllByRecursion (λ y. (1 ≤ y.rows) × Possible m y.value y.rows) (x ∷ y ∷ ys) → rows_of (x ∷ y ∷ ys) ≤ most_rows → total m p (x ∷ y ∷ ys) ≡ total m p (y ∷ x ∷ ys)
   total_swap p x y ys h le =
       let z = join_of m ys in
       let pz = join_possible ys h.1.1 (omega arith) in
@@ -109,7 +109,7 @@ module _ {V A : Type 0} (m : Meaning V A) (laws : Properties m) where
       ap Some (λ i. record { id = p; rows = rows i; value = value i })
 
   -- a group of some contributions is proper
-  proper_total : (p : GroupId) (c : Cell V) (ys : List (Cell V)) → All (λ y. (1 ≤ y.rows) × Possible m y.value y.rows) ys → rows_of ys ≤ most_rows → total m p ys ≡ Some c → (1 ≤ c.rows) × Possible m c.value c.rows
+  proper_total : (p : GroupId) (c : Cell V) (ys : List (Cell V)) → AllByRecursion (λ y. (1 ≤ y.rows) × Possible m y.value y.rows) ys → rows_of ys ≤ most_rows → total m p ys ≡ Some c → (1 ≤ c.rows) × Possible m c.value c.rows
   proper_total p c [] h le e = let z : ◌≡◌ {A = ℕ} 0 1 = cc in absurd (omega arith)
   proper_total p c (y ∷ ys) h le e =
       let is : record { id = p; rows = rows_of (y ∷ ys); value = join_of m (y ∷ ys) } ≡ c = cc in
@@ -154,7 +154,7 @@ module _ {V A : Type 0} (ms : ℕ → Meaning V A) (laws : (k : ℕ) → Propert
     at false false = refl
   rows_reordered (chain r s) k = rows_reordered s k ∙ rows_reordered r k
 
-  all_reordered : (P : Cell V → Type 0) {xs ys : List (Cell V)} → Reordered xs ys → All P xs → All P ys
+  all_reordered : (P : Cell V → Type 0) {xs ys : List (Cell V)} → Reordered xs ys → AllByRecursion P xs → AllByRecursion P ys
   all_reordered P empty h = h
   all_reordered P (keep x r) h = (h.0, all_reordered P r h.1)
   all_reordered P (swap x y xs) h = (h.1.0, (h.0, h.1.1))
@@ -171,7 +171,7 @@ module _ {V A : Type 0} (ms : ℕ → Meaning V A) (laws : (k : ℕ) → Propert
         let one : came_for p (x ∷ y ∷ xs) ≡ x ∷ y ∷ came_for p xs = came_yes p x (y ∷ xs) e ∙ ap (λ l. x ∷ l) (came_yes p y xs d) in
         let two : came_for p (y ∷ x ∷ xs) ≡ y ∷ x ∷ came_for p xs = came_yes p y (x ∷ xs) d ∙ ap (λ l. y ∷ l) (came_yes p x xs e) in
         ap (total (ms p.column) p) one
-        ∙ total_swap (ms p.column) (laws p.column) p x y (came_for p xs) (subst (All (λ y. (1 ≤ y.rows) × Possible (ms p.column) y.value y.rows)) one (proper_for ms p (x ∷ y ∷ xs) f.proper)) (subst (λ l. rows_of l ≤ most_rows) one (bound p (x ∷ y ∷ xs) f))
+        ∙ total_swap (ms p.column) (laws p.column) p x y (came_for p xs) (subst (AllByRecursion (λ y. (1 ≤ y.rows) × Possible (ms p.column) y.value y.rows)) one (proper_for ms p (x ∷ y ∷ xs) f.proper)) (subst (λ l. rows_of l ≤ most_rows) one (bound p (x ∷ y ∷ xs) f))
         ∙ ap (total (ms p.column) p) (sym two)
     at (inl e) (inr d) = ap (total (ms p.column) p) (came_yes p x (y ∷ xs) e ∙ ap (λ l. x ∷ l) (came_no p y xs d) ∙ sym (came_no p y (x ∷ xs) d ∙ came_yes p x xs e))
     at (inr e) (inl d) = ap (total (ms p.column) p) (came_no p x (y ∷ xs) e ∙ came_yes p y xs d ∙ sym (came_yes p y (x ∷ xs) d ∙ ap (λ l. y ∷ l) (came_no p x xs e)))
@@ -186,7 +186,7 @@ module _ {V A : Type 0} (ms : ℕ → Meaning V A) (laws : (k : ℕ) → Propert
   any_order (chain {xs} {ys} {zs} r s) f = any_order r f ∙ any_order s (fair_reordered xs ys r f)
 
   -- every group is proper
-  proper_heard : (xs : List (Cell V)) → Fair ms xs → All (Proper ms) (heard ms xs)
+  proper_heard : (xs : List (Cell V)) → Fair ms xs → AllByRecursion (Proper ms) (heard ms xs)
   proper_heard xs f = all_from_every (Proper ms) (heard ms xs) (λ k d _ h. at k d h) where
     at : (k : ℕ) (d : Cell V) → k < length (heard ms xs) → Proper ms (get_or (heard ms xs) k d)
     at k d h =

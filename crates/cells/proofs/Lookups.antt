@@ -1,6 +1,6 @@
 -- A sorted list is known by its look-ups, and putting changes one of them. Assumes nothing.
 use Rattle.std.proofs.Common.{◌≡◌, ℕ, List, [], ◌∷◌, Some, None, Option, Ordering, Less, Equal, Greater, sym, refl, ap, ◌∙◌, subst, arith}
-use Rattle.std.specs.List.{AllByRecursion as All}
+use Rattle.std.specs.List.{AllByRecursion}
 use Rattle.std.proofs.ByRecursion.{All-weaker}
 use Rattle.cells.specs.declared.id.GroupId.{GroupId}
 use Rattle.cells.specs.declared.cell.Cell.{Cell}
@@ -16,7 +16,7 @@ module _ {V : Type 0} where
   pub look_head : (p : GroupId) (c : Cell V) (cs : List (Cell V)) (r : Ordering) → order p c.id ≡ r → lookup p (c ∷ cs) ≡ among r None (Some c) (lookup p cs)
   look_head p c cs r e = ap (λ o. among o None (Some c) (lookup p cs)) e
 
-  pub look_before : (p : GroupId) (cs : List (Cell V)) → All (λ d. order p d.id ≡ Less) cs → lookup p cs ≡ None
+  pub look_before : (p : GroupId) (cs : List (Cell V)) → AllByRecursion (λ d. order p d.id ≡ Less) cs → lookup p cs ≡ None
   look_before p [] h = refl
   look_before p (c ∷ cs) h = look_head p c cs Less h.0
 
@@ -54,10 +54,10 @@ module _ {V : Type 0} (f : V → V → V) (x : Cell V) where
     at Greater e t = ap (lookup p) (put_head c cs Greater e) ∙ ap (λ o. among (order p c.id) None (Some c) o) t
 
   -- what holds of the new cell, and of each old one by its place
-  pub all_put : (P : GroupId → Type 0) → P x.id → (cs : List (Cell V)) → All (λ c. P c.id) cs → All (λ c. P c.id) (put f x cs)
+  pub all_put : (P : GroupId → Type 0) → P x.id → (cs : List (Cell V)) → AllByRecursion (λ c. P c.id) cs → AllByRecursion (λ c. P c.id) (put f x cs)
   all_put P new [] h = (new, tt)
-  all_put P new (c ∷ cs) h = subst (All (λ c. P c.id)) (sym (put_head c cs (order x.id c.id) refl)) (at (order x.id c.id) (all_put P new cs h.1)) where
-    at : (r : Ordering) → All (λ c. P c.id) (put f x cs) → All (λ c. P c.id) (among r (x ∷ c ∷ cs) (grown f x c ∷ cs) (c ∷ put f x cs))
+  all_put P new (c ∷ cs) h = subst (AllByRecursion (λ c. P c.id)) (sym (put_head c cs (order x.id c.id) refl)) (at (order x.id c.id) (all_put P new cs h.1)) where
+    at : (r : Ordering) → AllByRecursion (λ c. P c.id) (put f x cs) → AllByRecursion (λ c. P c.id) (among r (x ∷ c ∷ cs) (grown f x c ∷ cs) (c ∷ put f x cs))
     at Less t = (new, h)
     at Equal t = h
     at Greater t = (h.0, t)

@@ -1,6 +1,6 @@
 -- Cells in ascending order: what they are known by, and that sorting gives them. Assumes nothing.
 use Rattle.std.proofs.Common.{◌≡◌, ℕ, zero, suc, ◌<◌, ◌≤◌, Bool, true, false, ◌⊎◌, List, [], ◌∷◌, map, length, get_or, Some, None, Ordering, Less, Equal, Greater, sym, refl, ap, ◌∙◌, subst, inl, inr, add-one, arith}
-use Rattle.std.specs.List.{AllByRecursion as All, swap}
+use Rattle.std.specs.List.{AllByRecursion, swap}
 use Rattle.std.specs.List.Sorted.{IsPermutation, IsSorted}
 use Rattle.std.specs.Ordering.{is_lt, ordering_reverse}
 use Rattle.std.proofs.lemmas.List.{get_or-map, length-map}
@@ -23,7 +23,7 @@ module _ {V : Type 0} where
   sorted_at [] s k d h = absurd (omega arith)
   sorted_at (c ∷ cs) s zero d h = look_head c.id c cs Equal (itself c.id)
   sorted_at (c ∷ cs) s (suc k) d h = look_head (get_or cs k d).id c cs Greater (less_greater c.id (get_or cs k d).id (all_at cs k (omega arith) s.0)) ∙ sorted_at cs s.1 k d (omega arith) where
-    all_at : (ds : List (Cell V)) (k : ℕ) → k < length ds → All (λ e. order c.id e.id ≡ Less) ds → order c.id (get_or ds k d).id ≡ Less
+    all_at : (ds : List (Cell V)) (k : ℕ) → k < length ds → AllByRecursion (λ e. order c.id e.id ≡ Less) ds → order c.id (get_or ds k d).id ≡ Less
     all_at [] k h a = absurd (omega arith)
     all_at (e ∷ ds) zero h a = a.0
     all_at (e ∷ ds) (suc k) h a = all_at ds k (omega arith) a.1

@@ -1,6 +1,6 @@
 -- What a list of contributions comes to, and the laws of that. Assumes nothing.
 use Rattle.std.specs.Prelude.{◌≡◌, ℕ, ◌+◌, ◌≤◌, Bool, false, cond, not, List, [], ◌∷◌, is_some, Some, None, filter, Option, nat_eq}
-use Rattle.std.specs.List.{AllByRecursion as All}
+use Rattle.std.specs.List.{AllByRecursion}
 use Rattle.measures.specs.Values.{most_rows}
 use Rattle.measures.specs.Meaning.{Meaning, Possible}
 use Rattle.cells.specs.declared.id.GroupId.{GroupId}
@@ -75,7 +75,7 @@ module _ {V A : Type 0} where
 
   -- proper contributions, in each column of together at most 1,000,000 rows
   pub record Fair (ms : ℕ → Meaning V A) (xs : List (Cell V)) : Type 0 where
-    pub proper : All (Proper ms) xs
+    pub proper : AllByRecursion (Proper ms) xs
     pub few : (k : ℕ) → rows_of (came_in k xs) ≤ most_rows
 
   -- The laws of contributions: the groups are in order; a group is what came for it; the order in
@@ -85,4 +85,4 @@ module _ {V A : Type 0} where
     pub sorted : (xs : List (Cell V)) → Sorted (heard ms xs)
     pub totals : (xs : List (Cell V)) → Fair ms xs → (p : GroupId) → lookup p (heard ms xs) ≡ total (ms p.column) p (came_for p xs)
     pub order_is_free : (xs ys : List (Cell V)) → Fair ms xs → Reordered xs ys → heard ms xs ≡ heard ms ys
-    pub possible : (xs : List (Cell V)) → Fair ms xs → All (Proper ms) (heard ms xs)
+    pub possible : (xs : List (Cell V)) → Fair ms xs → AllByRecursion (Proper ms) (heard ms xs)

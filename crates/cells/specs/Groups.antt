@@ -1,7 +1,7 @@
 -- Groups of all columns as one list in ascending order, and what a contribution makes of it. Assumes nothing.
 use Rattle.std.specs.Prelude.{◌≡◌, ℕ, ◌+◌, ◌-◌, ◌^◌, ◌<◌, min, List, [], ◌∷◌, length, Some, None, Option, ◌≢◌, slice_index_or}
 use Rattle.std.specs.declared.cmp.Ordering.TheVariants.{Less}
-use Rattle.std.specs.List.{AllByRecursion as All}
+use Rattle.std.specs.List.{AllByRecursion}
 use Rattle.cells.specs.declared.id.GroupId.{GroupId}
 use Rattle.cells.specs.declared.cell.Cell.{Cell}
 use Rattle.cells.specs.Order.{order}
@@ -10,7 +10,7 @@ use Rattle.cells.specs.Listed.{among}
 -- the cells ascend: each is of a group before those of all that follow
 abbrev pub Sorted : {V : Type 0} → List (Cell V) → Type 0
 Sorted [] = Unit {0}
-Sorted (c ∷ cs) = All (λ d. order c.id d.id ≡ Less) cs × Sorted cs
+Sorted (c ∷ cs) = AllByRecursion (λ d. order c.id d.id ≡ Less) cs × Sorted cs
 
 -- row counts are added, and stay at the end of 32 bits
 abbrev pub together : ℕ → ℕ → ℕ

@@ -1,6 +1,6 @@
 -- Records cut to a width. Assumes nothing.
 use Rattle.std.proofs.Common.{◌≡◌, ℕ, zero, suc, ◌≤◌, List, [], ◌∷◌, map, length, take, ℤ, refl, ap, arith}
-use Rattle.std.specs.List.{AllByRecursion as All}
+use Rattle.std.specs.List.{AllByRecursion}
 use Rattle.feeds.specs.Steps.{cut}
 
 -- a record cut to a width has that width
@@ -10,7 +10,7 @@ length_cut (suc w) [] = ap suc (length_cut w [])
 length_cut (suc w) (x ∷ xs) = ap suc (length_cut w xs)
 
 -- so have all
-pub all_cut : (w : ℕ) (rs : List (List ℤ)) → All (λ r. length r ≡ w) (map (cut w) rs)
+pub all_cut : (w : ℕ) (rs : List (List ℤ)) → AllByRecursion (λ r. length r ≡ w) (map (cut w) rs)
 all_cut w [] = tt
 all_cut w (r ∷ rs) = (length_cut w r, all_cut w rs)
 

@@ -1,6 +1,6 @@
 -- The rows of a sheet, their widths and its last line's number. Assumes nothing.
 use Rattle.std.proofs.Common.{◌≡◌, ℕ, suc, ◌+◌, ◌-◌, ◌^◌, ◌≤◌, min, Bool, true, false, cond, ◌&&◌, eqb, leb, List, [], ◌∷◌, map, length, ℤ, Some, None, Option, sym, refl, ap, ◌∙◌, arith}
-use Rattle.std.specs.List.{AllByRecursion as All}
+use Rattle.std.specs.List.{AllByRecursion}
 use Rattle.std.proofs.lemmas.List.{length-map}
 use Rattle.std.proofs.lemmas.Bool.{cond-false, and_left, eqb-true}
 use Rattle.feeds.specs.SheetFeeds.{held}
@@ -59,7 +59,7 @@ row_width w (Some zs) r e = go (eqb (length zs) w) refl
     go false t = let f : None ≡ Some r = sym (cond-false (eqb (length zs) w && leb w 8) (Some zs) None (and_left _ _ t)) ∙ e in let y : ◌≡◌ {A = ℕ} 0 1 = cc in absurd (omega arith)
 
 -- and so have all that come
-pub rows_width : (w : ℕ) (ls : List Line) → All (λ r. length r ≡ w) (good_rows (map (row_of w) ls))
+pub rows_width : (w : ℕ) (ls : List Line) → AllByRecursion (λ r. length r ≡ w) (good_rows (map (row_of w) ls))
 rows_width w [] = tt
 rows_width w (l ∷ ls) = go (row_of w l) (of_line l) (rows_width w ls)
   where
@@ -67,6 +67,6 @@ rows_width w (l ∷ ls) = go (row_of w l) (of_line l) (rows_width w ls)
     of_line (complete line) r e = row_width w (numbers (split 32 line)) r e
     of_line (broken line) r e = let y : ◌≡◌ {A = ℕ} 0 1 = cc in absurd (omega arith)
 
-    go : (o : Option (List ℤ)) → ((r : List ℤ) → o ≡ Some r → length r ≡ w) → All (λ r. length r ≡ w) (good_rows (map (row_of w) ls)) → All (λ r. length r ≡ w) (good_rows (o ∷ map (row_of w) ls))
+    go : (o : Option (List ℤ)) → ((r : List ℤ) → o ≡ Some r → length r ≡ w) → AllByRecursion (λ r. length r ≡ w) (good_rows (map (row_of w) ls)) → AllByRecursion (λ r. length r ≡ w) (good_rows (o ∷ map (row_of w) ls))
     go None f h = tt
     go (Some r) f h = (f r refl, h)

@@ -1,7 +1,7 @@
 -- How a text falls into its first line and the rest, and a line into its first word and the rest. Assumes nothing.
 use Rattle.std.proofs.Common.{◌≡◌, ℕ, zero, suc, ◌<◌, Bool, true, false, cond, eqb, ◌⊎◌, List, [], ◌∷◌, ◌++◌, length, get_or, sym, refl, ap, ◌∙◌, inl, inr, arith}
 use Rattle.std.specs.Char.{is_ascii_digit}
-use Rattle.std.specs.List.{AllByRecursion as All}
+use Rattle.std.specs.List.{AllByRecursion}
 use Rattle.std.proofs.lemmas.Bool.{cond-false, ne_eqb, cases_eq}
 use Rattle.text.specs.Numbers.{digits_front, front}
 use Rattle.text.proofs.Fronts.{minus_front, plain_front}
@@ -54,7 +54,7 @@ lines_more line (p ∷ ps) h = refl
 
 -- no byte of a word is a space or a line feed
 abbrev pub Clear : List ℕ → Type 0
-Clear w = All (λ c. (c ≡ 32 → ⊥) × (c ≡ 10 → ⊥)) w
+Clear w = AllByRecursion (λ c. (c ≡ 32 → ⊥) × (c ≡ 10 → ⊥)) w
 
 -- a text that begins with a word and a space
 pub record Spaced (t : List ℕ) : Type 0 where

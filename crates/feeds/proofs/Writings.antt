@@ -1,6 +1,6 @@
 -- A sheet that ends clean is exactly how its rows are written. Assumes nothing.
 use Rattle.std.proofs.Common.{◌≡◌, ℕ, suc, ◌+◌, ◌<◌, ◌≤◌, Bool, true, false, cond, ◌&&◌, eqb, leb, ◌⊎◌, List, [], ◌∷◌, ◌++◌, map, length, ℤ, Some, None, Option, sym, refl, ap, ◌∙◌, inl, inr, arith}
-use Rattle.std.specs.List.{AllByRecursion as All}
+use Rattle.std.specs.List.{AllByRecursion}
 use Rattle.std.proofs.lemmas.List.{append_assoc, append-nil, length-append, get_or_at}
 use Rattle.std.proofs.lemmas.Bool.{eqb-true, cases_lt}
 use Rattle.measures.specs.Values.{RowValue}
@@ -116,7 +116,7 @@ written_field z s t j v e f =
     ∙ ap (λ x. in_front (z ∷ []) (fields j x)) (drop_past (written z) t s _ n)
 
 -- a written row is read
-written_fields : (zs : List ℤ) (t : List ℕ) → 0 < length zs → All RowValue zs → fields (length zs) (written_row zs ++ t) ≡ got zs t
+written_fields : (zs : List ℤ) (t : List ℕ) → 0 < length zs → AllByRecursion RowValue zs → fields (length zs) (written_row zs ++ t) ≡ got zs t
 written_fields [] t h v = absurd (omega (arith, h))
 written_fields (z ∷ []) t h v = ap (fields 1) (append_assoc (written z) (10 ∷ []) t) ∙ written_field z 10 t 0 v.0 (feed_front (written z) t) refl
 written_fields (z ∷ y ∷ zs) t h v =

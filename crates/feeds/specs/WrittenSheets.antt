@@ -1,6 +1,6 @@
 -- How rows are written as the text of a sheet. Assumes nothing.
 use Rattle.std.specs.Prelude.{◌≡◌, ℕ, List, [], ◌∷◌, ◌++◌, length, ℤ}
-use Rattle.std.specs.List.{AllByRecursion as All}
+use Rattle.std.specs.List.{AllByRecursion}
 use Rattle.measures.specs.Values.{RowValue}
 use Rattle.text.specs.Numbers.{written}
 use Rattle.feeds.specs.Sheets.{line_feed, space, sheet_rows, sheet_end}
@@ -19,7 +19,7 @@ written_rows (r ∷ rs) = written_row r ++ written_rows rs
 
 -- rows of width w whose values are row values
 abbrev pub Rows : ℕ → List (List ℤ) → Type 0
-Rows w rs = All (λ r. (length r ≡ w) × All RowValue r) rs
+Rows w rs = AllByRecursion (λ r. (length r ≡ w) × AllByRecursion RowValue r) rs
 
 -- a sheet that ends clean is how its rows are written, and rows that are written so come back, with a clean end
 pub record ExactlyWritten (w : ℕ) (text : List ℕ) : Type 0 where

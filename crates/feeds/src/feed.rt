@@ -1,6 +1,6 @@
 // What a feed of rows is.
 ghost use Rattle.std.specs.Prelude.{◌≡◌, ℕ, List, length, ℤ};
-ghost use Rattle.std.specs.List.{AllByRecursion as All};
+ghost use Rattle.std.specs.List.{AllByRecursion};
 ghost use Rattle.feeds.specs.declared.step.End.{End};
 ghost use Rattle.feeds.specs.Steps.{told, first, rest};
 
@@ -20,7 +20,7 @@ pub trait Feed {
     // How many values a row has; every row yet to come has as many.
     fn width(&self) -> usize
         ensures value { result ≡ wide self.now }
-        ensures each { All (λ row. length row ≡ wide self.now) (coming self.now) };
+        ensures each { AllByRecursion (λ row. length row ≡ wide self.now) (coming self.now) };
 
     // Gives the first row yet to come and keeps the rest; with none left, tells the end.
     fn next(&mut self) -> Step

@@ -2,7 +2,7 @@
 use Rattle.std.proofs.Common.{◌≡◌, ℕ, zero, suc, ◌+◌, ◌-◌, ◌^◌, ◌<◌, ◌≤◌, Bool, true, false, cond, eqb, ltb, leb, List, [], ◌∷◌, ◌++◌, length, take, replicate, ℤ, pos, nat_abs, Some, None, Option, sym, refl, ap, ◌∙◌, subst, arith, take-append-drop, pow_mono, w32, SFits, to_z, of_z}
 use lib.Count.{ones}
 use mir.Facts.{sfits_to_z}
-use Rattle.std.specs.List.{flat_map, AllByRecursion as All}
+use Rattle.std.specs.List.{flat_map, AllByRecursion}
 use Rattle.std.proofs.lemmas.List.{take_at, drop_at, length-take-le, length-append, length-replicate}
 use Rattle.std.proofs.lemmas.Int.{to_z-of_z, of_z-to_z, ints}
 use Rattle.std.proofs.lemmas.Bool.{leb-true, le-leb, ltb-true, and_parts, and_from, eq-eqb, eqb-true, cond-true}
@@ -44,7 +44,7 @@ inv_key w h =
     let e = ok.0 in
     let zs = replicate (4 - length ks) (pos 0) in
     let t = take_at ks zs w e in
-    ((length-append ks zs ∙ ap (λ n. length ks + n) (length-replicate (4 - length ks) (pos 0)) ∙ omega arith, subst (All RowValue) (sym t) ok.1, drop_at ks zs w e ∙ ap (λ n. replicate (4 - n) (pos 0)) e), ap (flat_map int_bytes) (sym t)))
+    ((length-append ks zs ∙ ap (λ n. length ks + n) (length-replicate (4 - length ks) (pos 0)) ∙ omega arith, subst (AllByRecursion RowValue) (sym t) ok.1, drop_at ks zs w e ∙ ap (λ n. replicate (4 - n) (pos 0)) e), ap (flat_map int_bytes) (sym t)))
 
 -- a group's row count
 inv_rows : (left : ℕ) → left ≤ most_rows → Inverse (λ n. (1 ≤ n) × (n ≤ left)) (bytes_of 4) (rows left)
@@ -166,7 +166,7 @@ module _ {M V A : Type 0} {meaning : M → Meaning V A} {found : ℕ → Option 
   -- what groups are from the last key on
   pub record Run (s : ColumnShape M) (c : ℕ) (last : Option (List ℤ)) (left : ℕ) (gs : List (Group V)) : Type 0 where
     pub many : length gs ≡ c
-    pub each : All (GoodGroup meaning s) gs
+    pub each : AllByRecursion (GoodGroup meaning s) gs
     pub ascends : Ascends last gs
     pub adds : rows_of gs ≡ left
 

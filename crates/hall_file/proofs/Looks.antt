@@ -1,6 +1,6 @@
 -- What views show, as the code looks at it.
 use Rattle.std.proofs.Common.{◌≡◌, ℕ, suc, ◌+◌, ◌-◌, ◌*◌, ◌<◌, ◌≤◌, min, List, [], ◌∷◌, ◌++◌, length, take, drop, ℤ, Some, Option, sym, refl, ap, ◌∙◌, suc-mul, add_comm, arith}
-use Rattle.std.specs.List.{flat_map, AllByRecursion as All}
+use Rattle.std.specs.List.{flat_map, AllByRecursion}
 use Rattle.std.proofs.lemmas.List.{append_assoc, length-append, length-take, take_at, drop_at, take_rest}
 use Rattle.measures.specs.Values.{most_rows}
 use Rattle.measures.specs.Bytes.{bytes_of}
@@ -15,7 +15,7 @@ use Rattle.hall_file.specs.Reading.{shape, group}
 use Rattle.hall_file.proofs.Forms.{Lawful, inv_shape, inv_group, good_mask}
 
 -- pieces of one length
-pub length_joined : {X : Type 0} (f : X → List ℕ) (w : ℕ) (xs : List X) → All (λ x. length (f x) ≡ w) xs → length (flat_map f xs) ≡ length xs * w
+pub length_joined : {X : Type 0} (f : X → List ℕ) (w : ℕ) (xs : List X) → AllByRecursion (λ x. length (f x) ≡ w) xs → length (flat_map f xs) ≡ length xs * w
 length_joined f w [] h = omega arith
 length_joined f w (x ∷ xs) h =
     let a = length-append (f x) (flat_map f xs) in
@@ -24,7 +24,7 @@ length_joined f w (x ∷ xs) h =
     let d : suc (length xs) * w ≡ w + length xs * w = suc-mul (length xs) w ∙ add_comm (length xs * w) w in
     omega arith
 
-all_by : {X : Type 0} (P Q : X → Type 0) → ((x : X) → P x → Q x) → (xs : List X) → All P xs → All Q xs
+all_by : {X : Type 0} (P Q : X → Type 0) → ((x : X) → P x → Q x) → (xs : List X) → AllByRecursion P xs → AllByRecursion Q xs
 all_by P Q f [] h = tt
 all_by P Q f (x ∷ xs) h = (f x h.0, all_by P Q f xs h.1)
 
@@ -36,7 +36,7 @@ key_length w ks four =
     let c : min w (length ks) ≡ min w 4 = ap (min w) four in
     omega arith
   where
-    every : (ks : List ℤ) → All (λ k. length (int_bytes k) ≡ 4) ks
+    every : (ks : List ℤ) → AllByRecursion (λ k. length (int_bytes k) ≡ 4) ks
     every [] = tt
     every (k ∷ ks) = (refl, every ks)
 
@@ -51,11 +51,11 @@ module _ {M V A : Type 0} (meaning : M → Meaning V A) (formed : (m : M) → Fo
       let c = ((formed s.measure).written_in_eight_bytes g.value).0 in
       omega arith
 
-  pub groups_size : (gs : List (Group V)) → All (λ g. length g.key ≡ 4) gs → length (groups_bytes meaning s gs) ≡ length gs * group_length s.mask
+  pub groups_size : (gs : List (Group V)) → AllByRecursion (λ g. length g.key ≡ 4) gs → length (groups_bytes meaning s gs) ≡ length gs * group_length s.mask
   groups_size gs h = length_joined (group_bytes meaning s) (group_length s.mask) gs (all_by (λ g. length g.key ≡ 4) (λ g. length (group_bytes meaning s g) ≡ group_length s.mask) group_size gs h)
 
 -- no group has more rows than all together
-each_within : {V : Type 0} (n : ℕ) (gs : List (Group V)) → rows_of gs ≤ n → All (λ g. g.rows ≤ n) gs
+each_within : {V : Type 0} (n : ℕ) (gs : List (Group V)) → rows_of gs ≤ n → AllByRecursion (λ g. g.rows ≤ n) gs
 each_within n [] h = tt
 each_within n (g ∷ gs) h = (omega arith, each_within n gs (omega arith))
 
@@ -72,11 +72,11 @@ module _ {M V A : Type 0} {meaning : M → Meaning V A} {found : ℕ → Option 
     pub lies : r2 ≡ groups_bytes meaning first.shape first.groups ++ columns_bytes meaning others
     pub size : length (groups_bytes meaning first.shape first.groups) ≡ length first.groups * group_length first.shape.mask
     pub wide : width first.shape ≤ 4
-    pub few : All (λ g. g.rows ≤ most_rows) first.groups
+    pub few : AllByRecursion (λ g. g.rows ≤ most_rows) first.groups
     pub good : GoodColumn meaning fields rows first
-    pub others_good : All (GoodColumn meaning fields rows) others
+    pub others_good : AllByRecursion (GoodColumn meaning fields rows) others
 
-  pub first_read : (fields rows : ℕ) → fields ≤ 8 → rows ≤ most_rows → (cs : List (Column M V)) (bs : List ℕ) → 0 < length cs → All (GoodColumn meaning fields rows) cs → bs ≡ columns_bytes meaning cs → FirstRead fields rows cs bs
+  pub first_read : (fields rows : ℕ) → fields ≤ 8 → rows ≤ most_rows → (cs : List (Column M V)) (bs : List ℕ) → 0 < length cs → AllByRecursion (GoodColumn meaning fields rows) cs → bs ≡ columns_bytes meaning cs → FirstRead fields rows cs bs
   first_read fields rows h k [] bs l ok e = absurd (omega arith)
   first_read fields rows h k (c ∷ cs) bs l ok e =
       let s = c.shape in
@@ -131,10 +131,10 @@ module _ {M V A : Type 0} {meaning : M → Meaning V A} {found : ℕ → Option 
     pub others : List (Group V)
     pub is : gs ≡ first ∷ others
     pub reads : group meaning s most_rows bs ≡ Some (first, groups_bytes meaning s others)
-    pub others_few : All (λ g. g.rows ≤ most_rows) others
-    pub others_good : All (GoodGroup meaning s) others
+    pub others_few : AllByRecursion (λ g. g.rows ≤ most_rows) others
+    pub others_good : AllByRecursion (GoodGroup meaning s) others
 
-  pub next_read : (s : ColumnShape M) → width s ≤ 4 → (gs : List (Group V)) (bs : List ℕ) → 0 < length gs → All (λ g. g.rows ≤ most_rows) gs → All (GoodGroup meaning s) gs → bs ≡ groups_bytes meaning s gs → NextRead s gs bs
+  pub next_read : (s : ColumnShape M) → width s ≤ 4 → (gs : List (Group V)) (bs : List ℕ) → 0 < length gs → AllByRecursion (λ g. g.rows ≤ most_rows) gs → AllByRecursion (GoodGroup meaning s) gs → bs ≡ groups_bytes meaning s gs → NextRead s gs bs
   next_read s w [] bs l few ok e = absurd (omega arith)
   next_read s w (x ∷ gs) bs l few ok e =
       record {

@@ -1,7 +1,7 @@
 -- When what a file holds is within the rules, and when bytes are well made. Assumes nothing.
 use Rattle.std.specs.Prelude.{◌≡◌, ℕ, ◌+◌, ◌-◌, ◌^◌, ◌<◌, ◌≤◌, Bool, true, ◌&&◌, List, [], ◌∷◌, length, take, drop, replicate, ℤ, pos, Some, None, Option, ◌==◌, count_ones, nat_le, nat_lt}
 use Rattle.std.specs.Ordering.{is_lt}
-use Rattle.std.specs.List.{AllByRecursion as All}
+use Rattle.std.specs.List.{AllByRecursion}
 use Rattle.measures.specs.Values.{RowValue, most_rows}
 use Rattle.measures.specs.Meaning.{Meaning, Possible}
 use Rattle.cells.specs.Order.{key_order}
@@ -22,7 +22,7 @@ most_width = 4
 
 -- a key of w row values, with 0 in the places past them
 abbrev pub Key : ℕ → List ℤ → Type 0
-Key w ks = (length ks ≡ most_width) × All RowValue (take w ks) × (drop w ks ≡ replicate (most_width - w) (pos 0))
+Key w ks = (length ks ≡ most_width) × AllByRecursion RowValue (take w ks) × (drop w ks ≡ replicate (most_width - w) (pos 0))
 
 -- whether a key comes after the one before it, if there is one
 abbrev pub is_after : Option (List ℤ) → List ℤ → Bool
@@ -63,7 +63,7 @@ module _ {M V A : Type 0} (meaning : M → Meaning V A) where
   -- a column in a file with so many row fields and rows
   pub record GoodColumn (fields rows : ℕ) (c : Column M V) : Type 0 where
     pub shaped : GoodShape fields c.shape
-    pub each : All (GoodGroup c.shape) c.groups
+    pub each : AllByRecursion (GoodGroup c.shape) c.groups
     pub ascends : Ascends None c.groups
     pub adds : rows_of c.groups ≡ rows
     pub few : length c.groups < 65536
@@ -75,7 +75,7 @@ module _ {M V A : Type 0} (meaning : M → Meaning V A) where
     pub columns_some : 1 ≤ length f.columns
     pub columns_few : length f.columns ≤ most_columns
     pub rows_few : f.rows ≤ most_rows
-    pub each : All (GoodColumn f.fields f.rows) f.columns
+    pub each : AllByRecursion (GoodColumn f.fields f.rows) f.columns
 
   -- bytes are well made: some content within the rules is written so
   abbrev pub WellMade : List ℕ → Type 0

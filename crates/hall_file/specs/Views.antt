@@ -1,7 +1,7 @@
 -- What the check of a file answers, and what views of checked bytes show. Assumes nothing.
 use Rattle.std.specs.Prelude.{◌≡◌, ℕ, ◌+◌, ◌≤◌, ◌⊎◌, List, [], ◌∷◌, ◌++◌, length, Some, None, Ok, Err, Option, Result, ◌≢◌}
 use Rattle.std.specs.Borrow.{Bor}
-use Rattle.std.specs.List.{AllByRecursion as All}
+use Rattle.std.specs.List.{AllByRecursion}
 use Rattle.text.specs.declared.refusal.Refusal.{Refusal}
 use Rattle.text.specs.declared.refusal.Refusal.TheVariants.{FileForm, FileShape}
 use Rattle.measures.specs.Values.{most_rows}
@@ -43,7 +43,7 @@ module _ {M V A : Type 0} (meaning : M → Meaning V A) where
     pub fields_few : v.head.fields ≤ 8
     pub rows_few : v.head.rows ≤ most_rows
     pub many : v.number + length cs ≡ v.head.columns
-    pub each : All (GoodColumn meaning v.head.fields v.head.rows) cs
+    pub each : AllByRecursion (GoodColumn meaning v.head.fields v.head.rows) cs
     pub bytes : v.bytes.now ≡ columns_bytes meaning cs
 
   -- a view of groups of one column, from one group on, shows these
@@ -51,8 +51,8 @@ module _ {M V A : Type 0} (meaning : M → Meaning V A) where
     pub shape : v.shape ≡ s
     pub wide : width s ≤ 4
     pub many : v.left ≡ length gs
-    pub few : All (λ g. g.rows ≤ most_rows) gs
-    pub each : All (GoodGroup meaning s) gs
+    pub few : AllByRecursion (λ g. g.rows ≤ most_rows) gs
+    pub each : AllByRecursion (GoodGroup meaning s) gs
     pub bytes : v.bytes.now ≡ groups_bytes meaning s gs
 
   -- the first of some columns and the others; nothing where there is none

@@ -3,7 +3,7 @@ ghost use Rattle.std.specs.Prelude.{◌≡◌, ◌≤◌, None};
 ghost use Rattle.measures.specs.Values.{most_rows};
 ghost use Rattle.readers.specs.Readers.{after};
 ghost use Rattle.readers.specs.Seen.{seen, passed};
-ghost use Rattle.hall_file.specs.Written.{width as width_of_lem};
+ghost use Rattle.hall_file.specs.Written.{width as width_of};
 ghost use Rattle.hall_file.specs.Reading.{shape as shape_reader, groups as groups_reader, column as column_reader, columns as columns_reader};
 
 use crate::groups::{is_after, take_cell};
@@ -40,7 +40,7 @@ fn take_groups<'a, M: Measure>(
     count: u16,
     bytes: &'a [u8],
 ) -> Option<&'a [u8]>
-    requires wide { width_of_lem shape.now ≤ 4 }
+    requires wide { width_of shape.now ≤ 4 }
     requires few { all ≤ most_rows }
     ensures { passed result ≡ after (groups_reader M.Measure.meaning shape.now count None all bytes.now) }
 {

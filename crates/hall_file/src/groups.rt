@@ -5,7 +5,7 @@ ghost use Rattle.cells.specs.Order.{key_order};
 ghost use Rattle.cells.specs.Columns.{cell_of};
 ghost use Rattle.readers.specs.Readers.{changed};
 ghost use Rattle.readers.specs.Seen.{seen};
-ghost use Rattle.hall_file.specs.Written.{width as width_of_lem};
+ghost use Rattle.hall_file.specs.Written.{width as width_of};
 ghost use Rattle.hall_file.specs.Rules.{is_after as comes_after};
 ghost use Rattle.hall_file.specs.Reading.{int, key as key_reader, fits as fit, rows as rows_reader, value as value_reader, group as group_reader};
 
@@ -112,7 +112,7 @@ pub(crate) fn take_cell<'a, M: Measure>(
     left: u32,
     bytes: &'a [u8],
 ) -> Option<(Cell<M::Value>, &'a [u8])>
-    requires { width_of_lem shape.now ≤ 4 }
+    requires { width_of shape.now ≤ 4 }
     ensures { seen result ≡ changed (cell_of column) (group_reader M.Measure.meaning shape.now left bytes.now) }
 {
     let (key, rest) = take_key(shape.mask.count_ones(), bytes)?;

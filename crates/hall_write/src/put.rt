@@ -133,8 +133,8 @@ pub(crate) fn put_column<M: Measure>(
 ) -> usize
     requires counted { count ≡ length (column number cells.now) }
     requires room { at + length (column_bytes M.Measure.meaning (record { shape = shape.now; groups = column number cells.now })) ≤ length out.old }
-    ensures after { out.new ≡ over at (column_bytes M.Measure.meaning (record { shape = shape.entry.now; groups = column number cells.now })) out.old }
-    ensures end { result ≡ at + length (column_bytes M.Measure.meaning (record { shape = shape.entry.now; groups = column number cells.now })) }
+    ensures after { out.new ≡ over at (column_bytes M.Measure.meaning (record { shape = shape.now; groups = column number cells.now })) out.old }
+    ensures end { result ≡ at + length (column_bytes M.Measure.meaning (record { shape = shape.now; groups = column number cells.now })) }
 {
     let end = put(out, at, &column_head(shape, count));
     put_groups(out, end, number, shape, cells)

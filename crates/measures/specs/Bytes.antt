@@ -1,6 +1,6 @@
 -- Numbers as bytes, lowest first. Assumes nothing.
 use Rattle.std.specs.Prelude.{◌≡◌, ℕ, zero, suc, ◌+◌, ◌*◌, ◌/◌, ◌%◌, ◌<◌, List, [], ◌∷◌, length}
-use Rattle.std.specs.List.{AllByRecursion as All}
+use Rattle.std.specs.List.{AllByRecursion}
 
 -- the k lowest bytes of a number
 abbrev pub bytes_of : ℕ → ℕ → List ℕ
@@ -14,7 +14,7 @@ word_of (b ∷ bs) = b + 256 * word_of bs
 
 -- each is a byte
 abbrev pub AreBytes : List ℕ → Type 0
-AreBytes bs = All (λ b. b < 256) bs
+AreBytes bs = AllByRecursion (λ b. b < 256) bs
 
 -- a list of eight bytes
 abbrev pub EightBytes : List ℕ → Type 0

@@ -6,7 +6,7 @@ use Rattle.std.proofs.lemmas.Bool.Decides.{nat_tests}
 use Rattle.std.proofs.lemmas.Int.{to_z-of_z, of_z-to_z, clamps, ints}
 use Rattle.std.proofs.ByRecursion.{All-get_or}
 use Rattle.std.specs.Int.{int_min, int_max, w64}
-use Rattle.std.specs.List.{AllByRecursion as All}
+use Rattle.std.specs.List.{AllByRecursion}
 use Rattle.measures.specs.declared.answer.Answer.{Answer}
 use Rattle.measures.specs.Values.{greatest_value, RowValue}
 use Rattle.measures.specs.Meaning.{Writable, Properties, Formed}
@@ -23,7 +23,7 @@ was_read_if true x y p = (refl, cc)
 was_read_if false x y p = let z : ◌≡◌ {A = ℕ} 0 1 = cc in absurd (omega arith)
 
 -- the one measured value of a row is a row value
-measured_row_value : (vs : List ℤ) → length vs ≡ 1 → All RowValue vs → RowValue (measured vs)
+measured_row_value : (vs : List ℤ) → length vs ≡ 1 → AllByRecursion RowValue vs → RowValue (measured vs)
 measured_row_value vs e h = All-get_or RowValue vs 0 (pos 0) (omega arith) h
 
 -- eight bytes hold one number

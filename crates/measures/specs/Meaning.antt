@@ -1,6 +1,6 @@
 -- What a measure is, and the six properties that make it one. Assumes nothing.
 use Rattle.std.specs.Prelude.{◌≡◌, ℕ, ◌+◌, ◌<◌, ◌≤◌, Bool, true, List, length, ℤ, Some, Option}
-use Rattle.std.specs.List.{AllByRecursion as All}
+use Rattle.std.specs.List.{AllByRecursion}
 use Rattle.measures.specs.Values.{RowValue, most_rows}
 use Rattle.measures.specs.Bytes.{EightBytes}
 
@@ -41,7 +41,7 @@ pub record Properties {V A : Type 0} (m : Meaning V A) : Type 0 where
   pub none_joins_to_the_same : (a : V) → m.join m.none a ≡ a
   pub none_for_no_rows : Possible m m.none 0
   pub only_none_for_no_rows : (a : V) → Possible m a 0 → a ≡ m.none
-  pub one_row_is_possible : (vs : List ℤ) → length vs ≡ m.fields → All RowValue vs → Possible m (m.one vs) 1
+  pub one_row_is_possible : (vs : List ℤ) → length vs ≡ m.fields → AllByRecursion RowValue vs → Possible m (m.one vs) 1
   pub join_is_possible : (a b : V) (i j : ℕ) → Possible m a i → Possible m b j → i + j ≤ most_rows → Possible m (m.join a b) (i + j)
   pub written_reads_back : (a : V) → Writable m a → m.reads (m.written a) ≡ Some a
   pub nothing_else_reads_so : (a : V) (bs : List ℕ) → Writable m a → EightBytes bs → m.reads bs ≡ Some a → bs ≡ m.written a

@@ -1,6 +1,6 @@
 -- Readers that read just what is written: each combinator keeps that.
 use Rattle.std.proofs.Common.{◌≡◌, ℕ, zero, suc, ◌+◌, ◌*◌, ◌/◌, ◌%◌, ◌^◌, ◌<◌, Bool, true, false, cond, eqb, ltb, List, [], ◌∷◌, ◌++◌, length, Some, None, Option, sym, refl, ap, ◌∙◌, subst, arith}
-use Rattle.std.specs.List.{flat_map, AllByRecursion as All}
+use Rattle.std.specs.List.{flat_map, AllByRecursion}
 use Rattle.std.proofs.lemmas.List.{append_assoc}
 use Rattle.std.proofs.lemmas.Bool.{lt-ltb, ltb-true, eq-eqb, eqb-true, cond-true}
 use Rattle.measures.specs.Bytes.{bytes_of}
@@ -77,7 +77,7 @@ inv_if {X} {Ok} {put} {get} t i =
 
 -- n of a kind
 abbrev pub Many : {X : Type 0} → (X → Type 0) → ℕ → List X → Type 0
-Many Ok n xs = (length xs ≡ n) × All Ok xs
+Many Ok n xs = (length xs ≡ n) × AllByRecursion Ok xs
 
 -- n of a kind
 pub inv_times : {X : Type 0} {Ok : X → Type 0} {put : X → List ℕ} {get : Reader X} → Inverse Ok put get → (n : ℕ) → Inverse (Many Ok n) (flat_map put) (times n get)
