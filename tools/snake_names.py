@@ -4,9 +4,10 @@
 usage: python3 tools/snake_names.py        at the top of the repository, once, after port.py
 
 Definitions, lemmas, fields and constructors of specs/ and proofs/ with a dash in their name go to snake case
-(`row-width` to `row_width`), and so do the names that a `ghost use` gives them, types to camel case (`Refused-at` to `RefusedAt`). Names that Rattle makes (goals,
-steps of a proof) and names of src/ stay as they are. Files under must-fail/ are turned where they cite a name.
-Prints each name, and refuses to write where two names would fall together in one crate.
+(`row-width` to `row_width`), and so do the names that a `ghost use` gives them; types go to camel case (`Refused-at`
+to `RefusedAt`). Names that Rattle makes (goals, steps of a proof) and names of src/ stay as they are. Files under
+must-fail/ are turned where they cite a name. The library's `AllByRecursion` is written out where an import calls it
+`All`, which is another word today. Prints each name, and refuses to write where two would fall together in one crate.
 """
 
 import glob
@@ -15,7 +16,8 @@ import sys
 
 NAME = r"[A-Za-z0-9_'\u2080-\u209cα-ωΑ-Ω\u2115\u2124-]+"
 TOKEN = re.compile(r"(?<![A-Za-z0-9_'α-ωΑ-Ωℕℤ◌-])" + r"[A-Za-zα-ω][A-Za-z0-9_'α-ωΑ-Ωℕℤ₀-₉-]*")
-ALIAS = re.compile(r" as ([a-z]+(?:-[a-z]+)+)[,}]")
+ALIAS = re.compile(r" as ([a-z]+(?:-[a-z]+)+|[a-z_]+_lem)[,}]")
+ALL = re.compile(r"(?<![A-Za-z0-9_'.-])All(?![A-Za-z0-9_'-])")
 DECLARED = re.compile(
     r"(?m)^[ ]*(?P<words>(?:(?:abbrev|pub|unfoldable|data|record|opaque|constructor|\|)\s+)*)"
     r"(?P<name>" + NAME + r")\s*(?:\([^()]*(?:\([^()]*\)[^()]*)*\)\s*|\{[^}]*\}\s*)*:(?!:)\s*(?=(?P<type>[^\n]*(?:\n[ ]+[^\n]*)*))")
@@ -49,7 +51,7 @@ def declared():
 def respelled(name, types):
     if name in types:
         return "".join(part[:1].upper() + part[1:] for part in name.split("-"))
-    return name.replace("-", "_")
+    return name.replace("-", "_").removesuffix("_lem")
 
 
 def main():
@@ -77,6 +79,8 @@ def main():
     for p in files:
         text = open(p, encoding="utf-8").read()
         turned = TOKEN.sub(turn, text)
+        if "AllByRecursion as All" in turned:
+            turned = ALL.sub("AllByRecursion", turned.replace("AllByRecursion as All", "AllByRecursion"))
         if turned != text:
             open(p, "w", encoding="utf-8").write(turned)
     return 0

@@ -3,4 +3,4 @@ pub mod Chosen
 pub mod Plain
 pub mod Groupings
 pub mod Lifts
-pub mod AnyMeasureMeasureLemmas
+pub mod Wraps

@@ -8,7 +8,7 @@ ghost use Rattle.any_measure.specs.declared.any.AnyMeasure.TheVariants.{Count, S
 ghost use Rattle.any_measure.specs.declared.any.AnyValue.TheVariants.{Rows, Total, Extreme};
 ghost use Rattle.measures.specs.Laws.{count_keeps, adding_keeps, least_keeps, greatest_keeps, count_formed, adding_formed, least_formed, greatest_formed};
 ghost use Rattle.any_measure.specs.Lifts.{lifted_keeps, lifted_formed};
-ghost use Rattle.any_measure.specs.AnyMeasureMeasureLemmas.{is_rows, is_total, is_extreme};
+ghost use Rattle.any_measure.specs.Wraps.{is_rows, is_total, is_extreme};
 ghost use Rattle.std.proofs.Common.{arith, rules};
 
 use measures::answer::Answer;

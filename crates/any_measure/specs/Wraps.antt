@@ -1,3 +1,4 @@
+-- A value that is one kind's own is that value in the kind's case. Assumes nothing.
 use Rattle.std.specs.Prelude.{◌≡◌, ℕ, ℤ, Some, None, Option}
 use Rattle.std.proofs.Common.{arith}
 use Rattle.any_measure.specs.Chosen.{rows_in, total_in, extreme_in}
