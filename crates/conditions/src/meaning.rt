@@ -1,5 +1,5 @@
 // What a condition says of a row and a base row.
-ghost use Rattle.std.specs.Prelude.{◌≡◌, ◌+◌, ◌<◌, ◌≤◌, not, ◌&&◌, ◌||◌, pos, slice_index_or};
+ghost use Rattle.std.specs.Prelude.{◌≡◌, ◌+◌, ◌<◌, ◌≤◌, ◌&&◌, ◌||◌, pos, slice_index_or};
 ghost use Rattle.conditions.specs.Postfix.{asked, trees};
 ghost use Rattle.conditions.specs.Meaning.{moved, amount, compares, compared, says, judge, stacked, verdict};
 

@@ -1,5 +1,5 @@
 // Reads a condition, one word after another.
-ghost use Rattle.std.specs.Prelude.{◌≡◌, ◌+◌, ◌<◌, ◌≤◌, true, [], ◌∷◌, is_some, IfOk, Some, OnOk, nat_lt};
+ghost use Rattle.std.specs.Prelude.{◌≡◌, ◌+◌, ◌<◌, true, [], ◌∷◌, is_some, IfOk, Some, OnOk, nat_lt};
 ghost use Rattle.words.specs.Lexemes.{seen};
 ghost use Rattle.words.specs.Cutting.{next, later, to_come, here};
 ghost use Rattle.conditions.specs.Machine.{Names, State, Move, go, noted, found, joint, opening, joining, shift_of, refusal, form, unknown, limit};

@@ -4,7 +4,7 @@ use Rattle.std.proofs.lemmas.List.{take-append-drop, append-nil, append_assoc, t
 use Rattle.std.proofs.lemmas.Bool.{cond-true, cond-false, eq-eqb, ne_eqb}
 use Rattle.measures.specs.Meaning.{Meaning}
 use Rattle.cells.specs.declared.cell.Cell.{Cell}
-use Rattle.cells.specs.Columns.{Group, cell_of, group as group-in}
+use Rattle.cells.specs.Columns.{Group, cell_of, group as group_in}
 use Rattle.readers.specs.Readers.{changed, go_on, kept, picked, with_rest, after, seq, times, number}
 use Rattle.readers.proofs.Inverses.{none_some}
 use Rattle.readers.proofs.Steps.{kept_yes, kept_no, changed_like, after_changed, listed, times_step, times_none, bytes_short, bytes_in}
@@ -87,11 +87,11 @@ abbrev grouped : {V : Type 0} → List ℤ × (ℕ × V) → Group V
 grouped q = record { key = q.0; rows = q.1.0; value = q.1.1 }
 
 -- what was read as a cell was read as its group
-pub cell_was : {V : Type 0} (k : ℕ) (c : Cell V) (rest : List ℕ) (o : Option (Group V × List ℕ)) → Some (c, rest) ≡ changed (cell_of k) o → Some (group-in c, rest) ≡ o
+pub cell_was : {V : Type 0} (k : ℕ) (c : Cell V) (rest : List ℕ) (o : Option (Group V × List ℕ)) → Some (c, rest) ≡ changed (cell_of k) o → Some (group_in c, rest) ≡ o
 cell_was k c rest None e = none_some (c, rest) (sym e)
 cell_was {V} k c rest (Some q) e =
     let z : ◌≡◌ {A = Cell V × List ℕ} (c, rest) (cell_of k q.0, q.1) = cc in
-    ap (λ (u : Cell V × List ℕ). Some (group-in u.0, u.1)) z
+    ap (λ (u : Cell V × List ℕ). Some (group_in u.0, u.1)) z
 
 pub no_cell : {V : Type 0} (k : ℕ) (o : Option (Group V × List ℕ)) → None ≡ changed (cell_of k) o → None ≡ o
 no_cell k None e = refl

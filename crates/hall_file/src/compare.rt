@@ -1,6 +1,6 @@
 // The shape of a file against a given shape.
 ghost use Rattle.std.specs.Prelude.{◌≡◌, List, map, Decides};
-ghost use Rattle.hall_file.specs.Written.{Column, Content, Shape, shape_of};
+ghost use Rattle.hall_file.specs.Written.{Column, Content, shape_of};
 ghost use Rattle.hall_file.specs.Rules.{Good};
 ghost use Rattle.hall_file.specs.Views.{Shows, ShowsColumns, CheckedShape};
 

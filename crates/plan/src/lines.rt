@@ -4,9 +4,8 @@ ghost use Rattle.words.specs.Cutting.{to_come, here};
 ghost use Rattle.words.specs.Tables.{texts};
 ghost use Rattle.conditions.specs.Machine.{refusal, form, taken, unknown, limit};
 ghost use Rattle.plan.specs.Drafts.{columns_of};
-ghost use Rattle.plan.specs.Machine.{some, named, column_name};
-ghost use Rattle.plan.specs.Lines.{declared};
-ghost use Rattle.plan.specs.Promises.{onto, Leads, Shorter, ReadsName, ReadsNames, ReadsKind, ReadsField, ReadsMeasured, ReadsWhere, ReadsColumn, ReadsTitle};
+ghost use Rattle.plan.specs.Machine.{some};
+ghost use Rattle.plan.specs.Promises.{Shorter, ReadsName, ReadsNames, ReadsKind, ReadsField, ReadsMeasured, ReadsWhere, ReadsColumn, ReadsTitle};
 
 use crate::plan::{Column, MOST_COLUMNS, Plan};
 use crate::words_of_plan::{
