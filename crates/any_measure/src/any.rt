@@ -13,11 +13,11 @@ ghost use Rattle.std.proofs.Common.{arith, rules};
 
 use measures::answer::Answer;
 use measures::count::Count;
-use measures::greatest::Greatest;
-use measures::least::Least;
-use measures::mean::Mean;
+use measures::greatest::GREATEST;
+use measures::least::LEAST;
+use measures::mean::MEAN;
 use measures::measure::Measure;
-use measures::sum::Sum;
+use measures::sum::SUM;
 
 #[derive(Clone, Copy, PartialEq, Eq, Debug)]
 pub enum AnyMeasure {
@@ -79,40 +79,40 @@ impl Measure for AnyMeasure {
     fn kind(&self) -> u8 {
         match *self {
             AnyMeasure::Count => Count.kind(),
-            AnyMeasure::Sum => Sum.kind(),
-            AnyMeasure::Least => Least.kind(),
-            AnyMeasure::Greatest => Greatest.kind(),
-            AnyMeasure::Mean => Mean.kind(),
+            AnyMeasure::Sum => SUM.kind(),
+            AnyMeasure::Least => LEAST.kind(),
+            AnyMeasure::Greatest => GREATEST.kind(),
+            AnyMeasure::Mean => MEAN.kind(),
         }
     }
 
     fn fields(&self) -> usize {
         match *self {
             AnyMeasure::Count => Count.fields(),
-            AnyMeasure::Sum => Sum.fields(),
-            AnyMeasure::Least => Least.fields(),
-            AnyMeasure::Greatest => Greatest.fields(),
-            AnyMeasure::Mean => Mean.fields(),
+            AnyMeasure::Sum => SUM.fields(),
+            AnyMeasure::Least => LEAST.fields(),
+            AnyMeasure::Greatest => GREATEST.fields(),
+            AnyMeasure::Mean => MEAN.fields(),
         }
     }
 
     fn none(&self) -> AnyValue {
         match *self {
             AnyMeasure::Count => AnyValue::Rows(Count.none()),
-            AnyMeasure::Sum => AnyValue::Total(Sum.none()),
-            AnyMeasure::Least => AnyValue::Extreme(Least.none()),
-            AnyMeasure::Greatest => AnyValue::Extreme(Greatest.none()),
-            AnyMeasure::Mean => AnyValue::Total(Mean.none()),
+            AnyMeasure::Sum => AnyValue::Total(SUM.none()),
+            AnyMeasure::Least => AnyValue::Extreme(LEAST.none()),
+            AnyMeasure::Greatest => AnyValue::Extreme(GREATEST.none()),
+            AnyMeasure::Mean => AnyValue::Total(MEAN.none()),
         }
     }
 
     fn one(&self, values: &[i32]) -> AnyValue {
         match *self {
             AnyMeasure::Count => AnyValue::Rows(Count.one(values)),
-            AnyMeasure::Sum => AnyValue::Total(Sum.one(values)),
-            AnyMeasure::Least => AnyValue::Extreme(Least.one(values)),
-            AnyMeasure::Greatest => AnyValue::Extreme(Greatest.one(values)),
-            AnyMeasure::Mean => AnyValue::Total(Mean.one(values)),
+            AnyMeasure::Sum => AnyValue::Total(SUM.one(values)),
+            AnyMeasure::Least => AnyValue::Extreme(LEAST.one(values)),
+            AnyMeasure::Greatest => AnyValue::Extreme(GREATEST.one(values)),
+            AnyMeasure::Mean => AnyValue::Total(MEAN.one(values)),
         }
     }
 
@@ -122,16 +122,16 @@ impl Measure for AnyMeasure {
             (AnyMeasure::Count, AnyValue::Rows(x), AnyValue::Rows(y)) => AnyValue::Rows(Count.join(
                 x, y,
             )),
-            (AnyMeasure::Sum, AnyValue::Total(x), AnyValue::Total(y)) => AnyValue::Total(Sum.join(
+            (AnyMeasure::Sum, AnyValue::Total(x), AnyValue::Total(y)) => AnyValue::Total(SUM.join(
                 x, y,
             )),
             (AnyMeasure::Least, AnyValue::Extreme(x), AnyValue::Extreme(y)) => AnyValue::Extreme(
-                Least.join(x, y),
+                LEAST.join(x, y),
             ),
             (AnyMeasure::Greatest, AnyValue::Extreme(x), AnyValue::Extreme(y)) => AnyValue::Extreme(
-                Greatest.join(x, y),
+                GREATEST.join(x, y),
             ),
-            (AnyMeasure::Mean, AnyValue::Total(x), AnyValue::Total(y)) => AnyValue::Total(Mean.join(
+            (AnyMeasure::Mean, AnyValue::Total(x), AnyValue::Total(y)) => AnyValue::Total(MEAN.join(
                 x, y,
             )),
             _ => b,
@@ -141,10 +141,10 @@ impl Measure for AnyMeasure {
     fn possible(&self, a: AnyValue, rows: u32) -> bool {
         match (*self, a) {
             (AnyMeasure::Count, AnyValue::Rows(x)) => Count.possible(x, rows),
-            (AnyMeasure::Sum, AnyValue::Total(x)) => Sum.possible(x, rows),
-            (AnyMeasure::Least, AnyValue::Extreme(x)) => Least.possible(x, rows),
-            (AnyMeasure::Greatest, AnyValue::Extreme(x)) => Greatest.possible(x, rows),
-            (AnyMeasure::Mean, AnyValue::Total(x)) => Mean.possible(x, rows),
+            (AnyMeasure::Sum, AnyValue::Total(x)) => SUM.possible(x, rows),
+            (AnyMeasure::Least, AnyValue::Extreme(x)) => LEAST.possible(x, rows),
+            (AnyMeasure::Greatest, AnyValue::Extreme(x)) => GREATEST.possible(x, rows),
+            (AnyMeasure::Mean, AnyValue::Total(x)) => MEAN.possible(x, rows),
             _ => false,
         }
     }
@@ -152,10 +152,10 @@ impl Measure for AnyMeasure {
     fn answer(&self, a: AnyValue, rows: u32) -> Answer {
         match (*self, a) {
             (AnyMeasure::Count, AnyValue::Rows(x)) => Count.answer(x, rows),
-            (AnyMeasure::Sum, AnyValue::Total(x)) => Sum.answer(x, rows),
-            (AnyMeasure::Least, AnyValue::Extreme(x)) => Least.answer(x, rows),
-            (AnyMeasure::Greatest, AnyValue::Extreme(x)) => Greatest.answer(x, rows),
-            (AnyMeasure::Mean, AnyValue::Total(x)) => Mean.answer(x, rows),
+            (AnyMeasure::Sum, AnyValue::Total(x)) => SUM.answer(x, rows),
+            (AnyMeasure::Least, AnyValue::Extreme(x)) => LEAST.answer(x, rows),
+            (AnyMeasure::Greatest, AnyValue::Extreme(x)) => GREATEST.answer(x, rows),
+            (AnyMeasure::Mean, AnyValue::Total(x)) => MEAN.answer(x, rows),
             _ => Answer::NoRows,
         }
     }
@@ -163,10 +163,10 @@ impl Measure for AnyMeasure {
     fn write(&self, a: AnyValue) -> [u8; 8] {
         match (*self, a) {
             (AnyMeasure::Count, AnyValue::Rows(x)) => Count.write(x),
-            (AnyMeasure::Sum, AnyValue::Total(x)) => Sum.write(x),
-            (AnyMeasure::Least, AnyValue::Extreme(x)) => Least.write(x),
-            (AnyMeasure::Greatest, AnyValue::Extreme(x)) => Greatest.write(x),
-            (AnyMeasure::Mean, AnyValue::Total(x)) => Mean.write(x),
+            (AnyMeasure::Sum, AnyValue::Total(x)) => SUM.write(x),
+            (AnyMeasure::Least, AnyValue::Extreme(x)) => LEAST.write(x),
+            (AnyMeasure::Greatest, AnyValue::Extreme(x)) => GREATEST.write(x),
+            (AnyMeasure::Mean, AnyValue::Total(x)) => MEAN.write(x),
             _ => [0; 8],
         }
     }
@@ -174,10 +174,10 @@ impl Measure for AnyMeasure {
     fn read(&self, bytes: &[u8; 8]) -> Option<AnyValue> {
         Some(match *self {
             AnyMeasure::Count => AnyValue::Rows(Count.read(bytes)?),
-            AnyMeasure::Sum => AnyValue::Total(Sum.read(bytes)?),
-            AnyMeasure::Least => AnyValue::Extreme(Least.read(bytes)?),
-            AnyMeasure::Greatest => AnyValue::Extreme(Greatest.read(bytes)?),
-            AnyMeasure::Mean => AnyValue::Total(Mean.read(bytes)?),
+            AnyMeasure::Sum => AnyValue::Total(SUM.read(bytes)?),
+            AnyMeasure::Least => AnyValue::Extreme(LEAST.read(bytes)?),
+            AnyMeasure::Greatest => AnyValue::Extreme(GREATEST.read(bytes)?),
+            AnyMeasure::Mean => AnyValue::Total(MEAN.read(bytes)?),
         })
     }
 }

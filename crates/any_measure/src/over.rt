@@ -19,11 +19,9 @@ fn are_measured_rows(values: &[i32]) -> bool
 fn joined<M: Measure>(measure: &M, values: &[i32]) -> M::Value
     ensures { result ≡ fold (λ a v. (M.Measure.meaning measure.now).join a ((M.Measure.meaning measure.now).one (v ∷ []))) (M.Measure.meaning measure.now).none values.now }
 {
-    let mut all = measure.none();
-    for value in values {
-        all = measure.join(all, measure.one(&[*value]));
-    }
-    all
+    values.iter().fold(measure.none(), |all, value| {
+        measure.join(all, measure.one(&[*value]))
+    })
 }
 
 // Joined in order, these values answer their plain aggregate.

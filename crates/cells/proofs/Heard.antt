@@ -1,6 +1,6 @@
 -- What contributions come to, whatever their order. Assumes nothing.
-use Rattle.std.proofs.Common.{◌≡◌, ℕ, ◌+◌, ◌<◌, ◌≤◌, Bool, true, false, cond, not, eqb, ◌⊎◌, List, [], ◌∷◌, length, get_or, drop, is_some, Some, Decides, Ordering, Less, Equal, Greater, sym, refl, ap, ◌∙◌, subst, inl, inr, true≢false, arith}
-use Rattle.std.specs.List.{AllByRecursion}
+use Rattle.std.proofs.Common.{◌≡◌, ℕ, ◌+◌, ◌<◌, ◌≤◌, Bool, true, false, cond, not, eqb, ◌||◌, ◌⊎◌, List, [], ◌∷◌, length, get_or, drop, is_some, Some, Decides, Ordering, Less, Equal, Greater, sym, refl, ap, ◌∙◌, subst, inl, inr, true≢false, arith}
+use Rattle.std.specs.List.{AllByRecursion, list_any}
 use Rattle.std.proofs.lemmas.List.{at_drop_more}
 use Rattle.std.proofs.ByRecursion.{all_from_every}
 use Rattle.std.proofs.lemmas.Bool.{eq-eqb}
@@ -12,8 +12,8 @@ use Rattle.cells.specs.Order.{order}
 use Rattle.cells.specs.Listed.{among, same_group, listed}
 use Rattle.cells.specs.Groups.{together, put, lookup, added, in_order, Apart, Sorted}
 use Rattle.cells.specs.Contributions.{Reordered, empty, keep, swap, chain, there, begins, beginning, ids, came_for, came_in, rows_of, heard_on, heard, join_of, total, Proper, Fair, Law}
-use Rattle.cells.proofs.Ordered.{same, itself, alike}
-use Rattle.cells.proofs.Lookups.{look_head, put_head, lookup_put_same, lookup_put_other, sorted_put, sorted_ext}
+use Rattle.cells.proofs.Ordered.{same, itself, alike, equal, equal_Decides}
+use Rattle.cells.proofs.Lookups.{never, look_head, put_head, lookup_put_same, lookup_put_other, sorted_put, sorted_ext}
 use Rattle.cells.proofs.InOrder.{in_order_none, apart_tail, apart_head}
 use Rattle.cells.proofs.Sorting.{sorted_at}
 
@@ -29,14 +29,13 @@ same_no p q ne = at (order p q) refl where
   at Equal e = absurd (ne (same p q e))
   at Greater e = ap (λ o. among o false true false) e
 
--- a test that decides it
-same_is : (p q : GroupId) (b : Bool) → Decides b (p ≡ q) → same_group p q ≡ b
-same_is p q true d = same_yes p q (d.0 refl)
-same_is p q false d = same_no p q (λ e. true≢false (sym (d.1 e)))
-
--- whether an id is among those from i on
-pub listed_at : (p : GroupId) (ps : List GroupId) (i : ℕ) (d : GroupId) (b : Bool) → i < length ps → Decides b (p ≡ get_or ps i d) → listed p (drop i ps) ≡ cond b true (listed p (drop (i + 1) ps))
-listed_at p ps i d b lt h = at_drop_more (listed p) ps i d lt ∙ ap (λ t. cond t true (listed p (drop (i + 1) ps))) (same_is p (get_or ps i d) b h)
+-- an id is listed where it equals one of the ids
+pub listed_any : (p : GroupId) (ps : List GroupId) → list_any (λ q. equal q p) ps ≡ listed p ps
+listed_any p [] = refl
+listed_any p (q ∷ qs) = at (equal q p) (equal_Decides q p) (listed_any p qs) where
+  at : (b : Bool) → Decides b (q ≡ p) → list_any (λ q. equal q p) qs ≡ listed p qs → (b || list_any (λ q. equal q p) qs) ≡ listed p (q ∷ qs)
+  at true d t = ap (λ s. cond s true (listed p qs)) (sym (same_yes p q (sym (d.0 refl))))
+  at false d t = t ∙ ap (λ s. cond s true (listed p qs)) (sym (same_no p q (λ e. true≢false (sym (d.1 (sym e))))))
 
 module _ {V : Type 0} (p : GroupId) (x : Cell V) (xs : List (Cell V)) where
   came_yes : p ≡ x.id → came_for p (x ∷ xs) ≡ x ∷ came_for p xs
@@ -110,7 +109,7 @@ module _ {V A : Type 0} (m : Meaning V A) (laws : Properties m) where
 
   -- a group of some contributions is proper
   proper_total : (p : GroupId) (c : Cell V) (ys : List (Cell V)) → AllByRecursion (λ y. (1 ≤ y.rows) × Possible m y.value y.rows) ys → rows_of ys ≤ most_rows → total m p ys ≡ Some c → (1 ≤ c.rows) × Possible m c.value c.rows
-  proper_total p c [] h le e = let z : ◌≡◌ {A = ℕ} 0 1 = cc in absurd (omega arith)
+  proper_total p c [] h le e = never e
   proper_total p c (y ∷ ys) h le e =
       let is : record { id = p; rows = rows_of (y ∷ ys); value = join_of m (y ∷ ys) } ≡ c = cc in
       subst (λ (d : Cell V). (1 ≤ d.rows) × Possible m d.value d.rows) is (omega (arith, h.0.0), join_possible (y ∷ ys) h le)

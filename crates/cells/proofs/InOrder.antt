@@ -6,7 +6,7 @@ use Rattle.cells.specs.declared.id.GroupId.{GroupId}
 use Rattle.cells.specs.declared.cell.Cell.{Cell}
 use Rattle.cells.specs.Order.{order}
 use Rattle.cells.specs.Groups.{Sorted, put, grown, lookup, added, in_order, Apart, Absent}
-use Rattle.cells.proofs.Ordered.{same, itself}
+use Rattle.cells.proofs.Ordered.{same, itself, no_less, no_greater}
 use Rattle.cells.proofs.Lookups.{sorted_ext, sorted_put, lookup_put_same, lookup_put_other}
 
 module _ {V : Type 0} where
@@ -32,13 +32,9 @@ module _ {V : Type 0} where
       none (suc k) d h e = a k d (omega arith) e
 
     at : (r : Ordering) → order p c.id ≡ r → ((i : ℕ) × (i < length cs) × ((d : Cell V) → (get_or cs i d).id ≡ p)) ⊎ Absent p cs → ((i : ℕ) × (i < length (c ∷ cs)) × ((d : Cell V) → (get_or (c ∷ cs) i d).id ≡ p)) ⊎ Absent p (c ∷ cs)
-    at Less e t = on (λ h. unlike (sym e ∙ h)) t where
-      unlike : Less ≡ Equal → ⊥
-      unlike q = let z : ◌≡◌ {A = ℕ} 0 1 = cc in omega arith
+    at Less e t = on (λ h. no_less (sym e ∙ h)) t
     at Equal e t = inl (0, omega arith, λ d. sym (same p c.id e))
-    at Greater e t = on (λ h. unlike (sym e ∙ h)) t where
-      unlike : Greater ≡ Equal → ⊥
-      unlike q = let z : ◌≡◌ {A = ℕ} 0 1 = cc in omega arith
+    at Greater e t = on (λ h. no_greater (sym e ∙ h)) t
 
   pub in_order_none : (p : GroupId) (cs : List (Cell V)) → Absent p cs → lookup p (in_order cs) ≡ None
   in_order_none p [] a = refl

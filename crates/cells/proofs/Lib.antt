@@ -4,3 +4,4 @@ pub mod InOrder
 pub mod Sorting
 pub mod Columnwise
 pub mod Heard
+pub mod Bits

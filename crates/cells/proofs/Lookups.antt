@@ -1,5 +1,5 @@
 -- A sorted list is known by its look-ups, and putting changes one of them. Assumes nothing.
-use Rattle.std.proofs.Common.{◌≡◌, ℕ, List, [], ◌∷◌, Some, None, Option, Ordering, Less, Equal, Greater, sym, refl, ap, ◌∙◌, subst, arith}
+use Rattle.std.proofs.Common.{◌≡◌, List, [], ◌∷◌, is_some, true≢false, Some, None, Option, Ordering, Less, Equal, Greater, sym, refl, ap, ◌∙◌, subst}
 use Rattle.std.specs.List.{AllByRecursion}
 use Rattle.std.proofs.ByRecursion.{All-weaker}
 use Rattle.cells.specs.declared.id.GroupId.{GroupId}
@@ -9,8 +9,8 @@ use Rattle.cells.specs.Listed.{among}
 use Rattle.cells.specs.Groups.{Sorted, put, grown, lookup, added}
 use Rattle.cells.proofs.Ordered.{same, itself, trans, greater_less}
 
-never : {X A : Type 0} {x : A} → None ≡ Some x → X
-never e = let z : ◌≡◌ {A = ℕ} 0 1 = cc in absurd (omega arith)
+pub never : {X A : Type 0} {x : A} → None ≡ Some x → X
+never e = absurd (true≢false (sym (ap is_some e)))
 
 module _ {V : Type 0} where
   pub look_head : (p : GroupId) (c : Cell V) (cs : List (Cell V)) (r : Ordering) → order p c.id ≡ r → lookup p (c ∷ cs) ≡ among r None (Some c) (lookup p cs)

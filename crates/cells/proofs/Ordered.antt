@@ -1,9 +1,12 @@
 -- The order of groups is total, and tells any two groups apart. Assumes nothing.
-use Rattle.std.proofs.Common.{◌≡◌, ℕ, ◌+◌, ◌<◌, ◌≤◌, ◌⊎◌, List, [], ◌∷◌, length, get_or, drop, ℤ, pos, ◌<ℤ◌, Ordering, Less, Equal, Greater, sym, refl, ap, ◌∙◌, inl, inr, add-one, arith, drop-cons}
-use Rattle.std.proofs.lemmas.Bool.{cases_lt}
+use Rattle.std.proofs.Common.{◌≡◌, ℕ, ◌<◌, ◌≤◌, Bool, true≢false, ◌&&◌, ◌==◌, ◌⊎◌, List, [], ◌∷◌, ℤ, pos, ◌<ℤ◌, int_eq, Decides, Ordering, Less, Equal, Greater, sym, refl, ap, ◌∙◌, inl, inr, arith}
+use Rattle.std.proofs.lemmas.Bool.{cases_lt, and_parts, and_from, eqb-true, eq-eqb}
+use Rattle.std.proofs.lemmas.Slice.Eq.{slice_eq-Decides}
+use lib.Pointwise.{pointwise}
 use borrow.Author.Differences.{ints}
-use Rattle.std.specs.Cmp.{int_cmp_is, int_ranks}
-use Rattle.std.specs.Ordering.{MatchOrdering, ordering_reverse, ordering_then, int_cmp}
+use Rattle.std.specs.Bool.{one_answer}
+use Rattle.std.specs.Cmp.{Equal-is, int_cmp_is, int_ranks, signed_Decides}
+use Rattle.std.specs.Ordering.{MatchOrdering, is_eq, is_lt, is_gt, ordering_reverse, ordering_then, int_cmp}
 use Rattle.cells.specs.declared.id.GroupId.{GroupId}
 use Rattle.cells.specs.Order.{order, order_total, key_order, numbers}
 
@@ -15,28 +18,17 @@ column_rank a b r h = int_cmp_is (pos a) (pos b) r (at r h) where
   at Equal h = ap pos h
   at Greater h = omega (arith, ints)
 
--- the values at one place decide, and else what follows does
-pub keys_at : (xs ys : List ℤ) (i : ℕ) (a b : ℤ) (r : Ordering) → i < length xs → i < length ys → a ≡ get_or xs i (pos 0) → b ≡ get_or ys i (pos 0) → MatchOrdering r (a <ℤ b) (a ≡ b) (b <ℤ a) →
-    key_order (drop i xs) (drop i ys) ≡ ordering_then r (key_order (drop (i + 1) xs) (drop (i + 1) ys))
-keys_at xs ys i a b r lx ly ea eb h =
-    let rest = key_order (drop (i + 1) xs) (drop (i + 1) ys) in
-    let x : drop i xs ≡ get_or xs i (pos 0) ∷ drop (i + 1) xs = drop-cons xs i (pos 0) lx ∙ ap (λ j. get_or xs i (pos 0) ∷ drop j xs) (sym (add-one i)) in
-    let y : drop i ys ≡ get_or ys i (pos 0) ∷ drop (i + 1) ys = drop-cons ys i (pos 0) ly ∙ ap (λ j. get_or ys i (pos 0) ∷ drop j ys) (sym (add-one i)) in
-    ap (λ l. key_order l (drop i ys)) x ∙ ap (key_order (get_or xs i (pos 0) ∷ drop (i + 1) xs)) y
-    ∙ ap (λ v. ordering_then (int_cmp v (get_or ys i (pos 0))) rest) (sym ea) ∙ ap (λ v. ordering_then (int_cmp a v) rest) (sym eb)
-    ∙ ap (λ o. ordering_then o rest) (sym (int_cmp_is a b r h))
-
 pub flip : (p q : GroupId) → order p q ≡ ordering_reverse (order q p)
 flip = order_total.antisymm
 
 pub trans : (p q r : GroupId) → order p q ≡ Less → order q r ≡ Less → order p r ≡ Less
 trans = order_total.trans
 
-no_less : {X : Type 0} → Less ≡ Equal → X
-no_less e = let z : ◌≡◌ {A = ℕ} 0 1 = cc in absurd (omega arith)
+pub no_less : {X : Type 0} → Less ≡ Equal → X
+no_less e = absurd (true≢false (ap is_lt e))
 
-no_greater : {X : Type 0} → Greater ≡ Equal → X
-no_greater e = let z : ◌≡◌ {A = ℕ} 0 1 = cc in absurd (omega arith)
+pub no_greater : {X : Type 0} → Greater ≡ Equal → X
+no_greater e = absurd (true≢false (ap is_gt e))
 
 lex_same : (xs ys : List ℤ) → key_order xs ys ≡ Equal → xs ≡ ys
 lex_same [] [] e = refl
@@ -55,9 +47,9 @@ same p q e = let t = lex_same (numbers p) (numbers q) e in let a : p.column ≡ 
 pub itself : (p : GroupId) → order p p ≡ Equal
 itself p = at (order p p) (flip p p) where
   at : (r : Ordering) → r ≡ ordering_reverse r → r ≡ Equal
-  at Less e = let z : ◌≡◌ {A = ℕ} 0 1 = cc in absurd (omega arith)
+  at Less e = absurd (true≢false (ap is_lt e))
   at Equal e = refl
-  at Greater e = let z : ◌≡◌ {A = ℕ} 0 1 = cc in absurd (omega arith)
+  at Greater e = absurd (true≢false (ap is_gt e))
 
 pub less_greater : (p q : GroupId) → order p q ≡ Less → order q p ≡ Greater
 less_greater p q e = flip q p ∙ ap ordering_reverse e
@@ -81,7 +73,7 @@ column_rises p q e = at (cases_lt q.column p.column) where
   at : (q.column < p.column) ⊎ (p.column ≤ q.column) → p.column ≤ q.column
   at (inl lt) =
       let z : ◌≡◌ {A = Ordering} Greater Less = ap (λ o. ordering_then o (key_order p.key q.key)) (column_rank p.column q.column Greater lt) ∙ e in
-      let y : ◌≡◌ {A = ℕ} 0 1 = cc in absurd (omega arith)
+      absurd (true≢false (ap is_gt z))
   at (inr le) = le
 
 -- two groups are the same, or not
@@ -91,3 +83,20 @@ alike p q = at (order p q) refl where
   at Less e = inr (λ h. no_less (sym e ∙ ap (order p) (sym h) ∙ itself p))
   at Equal e = inl (same p q e)
   at Greater e = inr (λ h. no_greater (sym e ∙ ap (order p) (sym h) ∙ itself p))
+
+-- ---- equality as it is derived
+
+abbrev pub equal : GroupId → GroupId → Bool
+equal p q = (p.column == q.column) && pointwise int_eq p.key q.key
+
+-- it tells whether two ids are one group
+pub equal_Decides : (p q : GroupId) → Decides (equal p q) (p ≡ q)
+equal_Decides p q =
+    let keys = slice_eq-Decides signed_Decides p.key q.key _ refl in (
+      λ t. (let b = and_parts _ _ t in λ i. record { column = eqb-true p.column q.column b.0 i; key = keys.0 b.1 i }),
+      λ h. and_from _ _ (eq-eqb _ _ (ap (λ (p : GroupId). p.column) h)) (keys.1 (ap (λ (p : GroupId). p.key) h)),
+    )
+
+-- just where the order tells them apart by nothing
+pub equal_order : (p q : GroupId) → equal p q ≡ is_eq (order p q)
+equal_order p q = one_answer _ _ (equal_Decides p q) (λ t. same p q ((Equal-is (order p q)).0 t), λ e. (Equal-is (order p q)).1 (ap (order p) (sym e) ∙ itself p))

@@ -1,5 +1,5 @@
 -- Cells in ascending order: what they are known by, and that sorting gives them. Assumes nothing.
-use Rattle.std.proofs.Common.{◌≡◌, ℕ, zero, suc, ◌<◌, ◌≤◌, Bool, true, false, ◌⊎◌, List, [], ◌∷◌, map, length, get_or, Some, None, Ordering, Less, Equal, Greater, sym, refl, ap, ◌∙◌, subst, inl, inr, add-one, arith}
+use Rattle.std.proofs.Common.{◌≡◌, ℕ, zero, suc, ◌<◌, ◌≤◌, false, true≢false, ◌⊎◌, List, [], ◌∷◌, map, length, get_or, Some, None, Ordering, Less, Equal, Greater, sym, refl, ap, ◌∙◌, subst, inl, inr, add-one, arith}
 use Rattle.std.specs.List.{AllByRecursion, swap}
 use Rattle.std.specs.List.Sorted.{IsPermutation, IsSorted}
 use Rattle.std.specs.Ordering.{is_lt, ordering_reverse}
@@ -12,7 +12,7 @@ use Rattle.cells.specs.declared.id.GroupId.{GroupId}
 use Rattle.cells.specs.declared.cell.Cell.{Cell}
 use Rattle.cells.specs.Order.{order}
 use Rattle.cells.specs.Groups.{Sorted, lookup, in_order, Apart, Absent}
-use Rattle.cells.proofs.Ordered.{same, itself, flip, trans, less_greater}
+use Rattle.cells.proofs.Ordered.{same, itself, flip, trans, less_greater, no_less}
 use Rattle.cells.proofs.Lookups.{look_head}
 use Rattle.cells.proofs.InOrder.{in_order_is}
 
@@ -46,7 +46,7 @@ module _ {V : Type 0} where
       ((first, All-weaker _ _ (λ d h. trans c.id e.id d.id first h) cs s.0), s)
 
 unlike : (r : Ordering) → r ≡ Less → is_lt r ≡ false → ⊥
-unlike r e f = let z : ◌≡◌ {A = Bool} true false = sym (ap is_lt e) ∙ f in let y : ◌≡◌ {A = ℕ} 0 1 = cc in omega arith
+unlike r e f = true≢false (sym (ap is_lt e) ∙ f)
 
 -- not after, and another
 before : (p q : GroupId) → is_lt (order q p) ≡ false → (p ≡ q → ⊥) → order p q ≡ Less
@@ -171,8 +171,7 @@ module _ {V : Type 0} where
   sorted_apart l s i j d p q e =
       let x = sorted_later l s i j d p q in
       let y : order (get_or l i d).id (get_or l j d).id ≡ Equal = ap (order (get_or l i d).id) (sym e) ∙ itself (get_or l i d).id in
-      let z : ◌≡◌ {A = Ordering} Less Equal = sym x ∙ y in
-      let w : ◌≡◌ {A = ℕ} 0 1 = cc in omega arith
+      no_less (sym x ∙ y)
 
   -- sorted cells are in order already
   pub in_order_sorted : (l : List (Cell V)) → Sorted l → in_order l ≡ l

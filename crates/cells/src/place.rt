@@ -14,7 +14,8 @@ use std::cmp::Ordering;
 
 // A cell, and two links of the chains in which cells are found. Each place is also a bucket: its head
 // links to the newest cell of the bucket with the place's own index, and next to the next older cell
-// of the bucket that the place's cell is in. A link is 0, for none, or one more than an index.
+// of the bucket that the place's cell is in. A link is 0, for none, or one more than an index: an
+// Option of a link takes twice the room, and there are two in every place.
 #[derive(Clone, Copy)]
 pub struct Place<V> {
     pub cell: Cell<V>,
@@ -76,13 +77,16 @@ pub fn is_full(used: usize, places: usize) -> bool
     used == places
 }
 
+// Places compare by group alone. A derive would ask the same of cells, and two cells with different
+// values would pass for equal.
 impl<V> PartialEq for Place<V> {
     ghost eq = { eq_by_cmp (on (λ s. s.cell.id) order) };
 
     ghost laws = { partial_equiv_from_equiv (eq_by_cmp_equiv (on_total (λ s. s.cell.id) order_total)) };
 
+    #[tactic(auto, using(crate::proofs::Ordered::equal_order))]
     fn eq(&self, other: &Place<V>) -> bool {
-        self.cell.id.is(&other.cell.id)
+        self.cell.id == other.cell.id
     }
 }
 
@@ -96,7 +100,7 @@ impl<V> PartialOrd for Place<V> {
     ghost laws = { Prim.search (comparing, order_total) };
 
     fn partial_cmp(&self, other: &Place<V>) -> Option<Ordering> {
-        Some(self.cell.id.order(&other.cell.id))
+        Some(self.cmp(other))
     }
 }
 
@@ -109,8 +113,9 @@ impl<V> Ord for Place<V> {
 
     ghost matches_eq = { λ x y. refl };
 
+    #[tactic(auto, unfolding(crate::specs::Order::order))]
     fn cmp(&self, other: &Place<V>) -> Ordering {
-        self.cell.id.order(&other.cell.id)
+        self.cell.id.cmp(&other.cell.id)
     }
 }
 

@@ -1,17 +1,12 @@
 -- The steps of a tree: what they leave, and how many they are. Assumes nothing.
-use Rattle.std.proofs.Common.{◌≡◌, ℕ, ◌+◌, ◌*◌, ◌≤◌, List, [], ◌∷◌, ◌++◌, length, pos, refl, ap, ◌∙◌, arith, length-append}
+use Rattle.std.proofs.Common.{◌≡◌, ℕ, ◌+◌, ◌*◌, ◌≤◌, [], ◌∷◌, ◌++◌, length, pos, refl, ap, ◌∙◌, arith, length-append}
 use Rattle.conditions.specs.Trees.{Tree, compare, denial, bracketed, both, either, comparisons, Within}
 use Rattle.conditions.specs.Postfix.{works, grow, flat}
 use Rattle.conditions.specs.Theorems.{StepsLeaveTheTree, StepsFit}
 use Rattle.words.specs.declared.signs.Sign.TheVariants.{Equal}
 use Rattle.conditions.specs.declared.condition.Operand.TheVariants.{Number}
-use Rattle.conditions.specs.declared.condition.Step.{Step}
 use Rattle.conditions.specs.declared.condition.Step.TheVariants.{Not, Bracket, And, Or}
-
--- steps after others
-after : {X : Type 0} (f : Step → List X → List X) (ss tt : List Step) (xs : List X) → works f (ss ++ tt) xs ≡ works f tt (works f ss xs)
-after f [] tt xs = refl
-after f (s ∷ ss) tt xs = after f ss tt (f s xs)
+use Rattle.conditions.proofs.Stacks.{after}
 
 pub left : StepsLeaveTheTree
 left (compare k) ts = refl

@@ -1,21 +1,21 @@
 -- What is accepted keeps the limits. Assumes nothing.
-use Rattle.std.proofs.Common.{◌≡◌, ℕ, ◌+◌, ◌-◌, ◌<◌, ◌≤◌, Bool, true, false, cond, ltb, List, [], ◌∷◌, get_or, set, Some, None, Option, refl, subst, arith}
+use Rattle.std.proofs.Common.{◌≡◌, ℕ, ◌+◌, ◌-◌, ◌<◌, ◌≤◌, Bool, true, false, cond, ltb, List, [], ◌∷◌, get_or, set, Some, None, Ok, Err, Option, Result, refl, subst, arith}
 use Rattle.std.proofs.lemmas.Bool.{ltb-true}
 use Rattle.words.specs.Lexemes.{Lexeme, name, reserved, number, sign, shift, bracket, other, feed, cut}
 use Rattle.words.specs.Spots.{Spot, past}
 use Rattle.conditions.specs.Trees.{Tree, compare, denial, bracketed, both, Within, comparisons}
-use Rattle.conditions.specs.Machine.{limit, refusal, Seen, Names, Prefix, deny, along, Level, Place, denials, brackets, deep, Side, left, right, State, term, operand, field, by, compared, after, Move, go, stop, done, settle, joined, arrived, onward, step, run, found, begin, first, counted, opens, follows, deeper, denied, inside, note, at_sign, at_by, at_field, shifted, shift_of, opening, joining, Outcome, refused, accepted}
+use Rattle.conditions.specs.Machine.{Fault, limit, refusal, Seen, Names, Prefix, deny, along, Level, Place, denials, brackets, deep, Side, left, right, State, term, operand, field, by, compared, after, Move, go, stop, done, settle, joined, arrived, onward, step, run, found, begin, first, counted, opens, follows, deeper, denied, inside, note, at_sign, at_by, at_field, shifted, shift_of, opening, joining, Outcome, refused, accepted}
 use Rattle.conditions.specs.Promises.{opened, unread, condition_of}
 use Rattle.conditions.specs.declared.reader.Opening.{Opening}
 use Rattle.conditions.specs.declared.reader.Opening.TheVariants.{Denial, Bracket, Plain}
 use Rattle.conditions.specs.declared.reader.Joining.{Joining}
-use Rattle.conditions.specs.declared.reader.Joining.TheVariants.{And, Or, Close, End, Nothing}
+use Rattle.conditions.specs.declared.reader.Joining.TheVariants.{And, Or, Close, End}
 use Rattle.conditions.specs.declared.condition.Shift.{Shift}
 use Rattle.conditions.specs.declared.condition.Shift.TheVariants.{Bare}
 use Rattle.conditions.specs.declared.condition.Operand.{Operand}
 use Rattle.conditions.specs.declared.condition.Operand.TheVariants.{Number, Row}
 use Rattle.conditions.specs.declared.condition.Found.{Found}
-use Rattle.conditions.specs.declared.condition.Found.TheVariants.{Value, RowField, BaseField, Unknown, NoOperand}
+use Rattle.conditions.specs.declared.condition.Found.TheVariants.{Value, RowField, BaseField}
 
 -- a tree may stand at a depth
 abbrev Fits : ℕ → Tree → Type 0
@@ -90,12 +90,11 @@ arrived_kept : (σ : Seen) (p : Place) (side : Side) (o : Operand) → Sound p 1
 arrived_kept σ p left o k = k
 arrived_kept σ p (right l s) o k = settle_kept σ p.here.before (compare (record { left = l; sign = s; right = o })) p.here.ors p.outer k.before (λ d e. tt) k.ors k.outer k.low (omega (arith, k.few)) k.most
 
-begin_kept : (σ : Seen) (p : Place) (side : Side) (f : Found) → Sound p 1 σ → Moved (begin σ p side f)
-begin_kept σ p side (Value z) k = arrived_kept σ p side (Number z) k
-begin_kept σ p side (BaseField f) k = k
-begin_kept σ p side Unknown k = tt
-begin_kept σ p side NoOperand k = tt
-begin_kept σ p side (RowField f) k = by_cases (get_or σ.fields f false) (ltb σ.different 4)
+begin_kept : (σ : Seen) (p : Place) (side : Side) (f : Result Found Fault) → Sound p 1 σ → Moved (begin σ p side f)
+begin_kept σ p side (Ok (Value z)) k = arrived_kept σ p side (Number z) k
+begin_kept σ p side (Ok (BaseField f)) k = k
+begin_kept σ p side (Err w) k = tt
+begin_kept σ p side (Ok (RowField f)) k = by_cases (get_or σ.fields f false) (ltb σ.different 4)
   where
     by_cases : (a b : Bool) → Moved (note (cond a (Some σ) (cond b (Some (record { comparisons = σ.comparisons; different = σ.different + 1; fields = set σ.fields f true })) None)) (field p side (Row f)))
     by_cases true b = k
@@ -105,16 +104,13 @@ begin_kept σ p side (RowField f) k = by_cases (get_or σ.fields f false) (ltb �
 counted_kept : (σ : Seen) (p : Place) (f : Found) → Sound p 0 σ → Moved (counted σ p f)
 counted_kept σ p f k = by_cases (ltb σ.comparisons 16) refl
   where
-    by_cases : (b : Bool) → ltb σ.comparisons 16 ≡ b → Moved (cond b (begin (record { comparisons = σ.comparisons + 1; different = σ.different; fields = σ.fields }) p left f) (stop limit))
-    by_cases true h = begin_kept _ p left f (record { before = k.before; ors = k.ors; outer = k.outer; low = k.low; few = omega (arith, k.few); most = omega (arith, ltb-true _ 16 h) })
+    by_cases : (b : Bool) → ltb σ.comparisons 16 ≡ b → Moved (cond b (begin (record { comparisons = σ.comparisons + 1; different = σ.different; fields = σ.fields }) p left (Ok f)) (stop limit))
+    by_cases true h = begin_kept _ p left (Ok f) (record { before = k.before; ors = k.ors; outer = k.outer; low = k.low; few = omega (arith, k.few); most = omega (arith, ltb-true _ 16 h) })
     by_cases false h = tt
 
-first_kept : (σ : Seen) (p : Place) (f : Found) → Sound p 0 σ → Moved (first σ p f)
-first_kept σ p Unknown k = tt
-first_kept σ p NoOperand k = tt
-first_kept σ p (Value z) k = counted_kept σ p (Value z) k
-first_kept σ p (RowField f) k = counted_kept σ p (RowField f) k
-first_kept σ p (BaseField f) k = counted_kept σ p (BaseField f) k
+first_kept : (σ : Seen) (p : Place) (f : Result Found Fault) → Sound p 0 σ → Moved (first σ p f)
+first_kept σ p (Ok f) k = counted_kept σ p f k
+first_kept σ p (Err w) k = tt
 
 deeper_kept : (σ : Seen) (p q : Place) → (deep p < 8 → Sound q 0 σ) → Moved (deeper σ p q)
 deeper_kept σ p q k = by_cases (ltb (deep p) 8) refl
@@ -147,17 +143,17 @@ joined_comparisons : (o : Option Tree) (t : Tree) → comparisons (joined o t) �
 joined_comparisons None t = omega arith
 joined_comparisons (Some u) t = refl
 
-follows_kept : (σ : Seen) (o : Option Tree) (t : Tree) (ls : List Level) (j : Joining) → Stands o t ls σ → Moved (follows σ o t ls j)
-follows_kept σ o t ls And k = record { before = (λ d e. k.this d (omega (arith, e)), tt); ors = k.ors; outer = k.outer; low = omega (arith, k.low); few = omega (arith, k.few); most = k.most }
-follows_kept σ o t ls Or k = record { before = tt; ors = joined_fits (brackets ls) o t k.ors k.this; outer = k.outer; low = omega (arith, k.low); few = omega (arith, k.few, joined_comparisons o t); most = k.most }
-follows_kept σ o t [] Close k = tt
-follows_kept σ o t (l ∷ ls) Close k =
+follows_kept : (σ : Seen) (o : Option Tree) (t : Tree) (ls : List Level) (j : Option Joining) → Stands o t ls σ → Moved (follows σ o t ls j)
+follows_kept σ o t ls (Some And) k = record { before = (λ d e. k.this d (omega (arith, e)), tt); ors = k.ors; outer = k.outer; low = omega (arith, k.low); few = omega (arith, k.few); most = k.most }
+follows_kept σ o t ls (Some Or) k = record { before = tt; ors = joined_fits (brackets ls) o t k.ors k.this; outer = k.outer; low = omega (arith, k.low); few = omega (arith, k.few, joined_comparisons o t); most = k.most }
+follows_kept σ o t [] (Some Close) k = tt
+follows_kept σ o t (l ∷ ls) (Some Close) k =
     settle_kept σ l.before (bracketed (joined o t)) l.ors ls k.outer.0
     (λ d e. (d - 1, omega (arith, e, k.low), joined_fits (brackets (l ∷ ls)) o t k.ors k.this (d - 1) (omega (arith, e, k.low))))
     k.outer.1 k.outer.2 (omega (arith, k.low)) (omega (arith, k.few, joined_comparisons o t)) k.most
-follows_kept σ o t [] End k = (joined_fits 0 o t k.ors k.this 8 refl, omega (arith, k.few, k.most, joined_comparisons o t))
-follows_kept σ o t (l ∷ ls) End k = tt
-follows_kept σ o t ls Nothing k = tt
+follows_kept σ o t [] (Some End) k = (joined_fits 0 o t k.ors k.this 8 refl, omega (arith, k.few, k.most, joined_comparisons o t))
+follows_kept σ o t (l ∷ ls) (Some End) k = tt
+follows_kept σ o t ls None k = tt
 
 onward_kept : (σ : Seen) (st : State) (x : Lexeme) → Kept st σ → Moved (onward σ st x)
 onward_kept σ (after o t ls) x k = follows_kept σ o t ls (joining x) k

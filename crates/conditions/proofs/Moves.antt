@@ -1,5 +1,5 @@
 -- How the words still to come go on, one word at a time. Assumes nothing.
-use Rattle.std.proofs.Common.{◌≡◌, ℕ, ◌+◌, ◌<◌, ◌≤◌, Bool, true, false, ltb, List, [], ◌∷◌, length, get_or, set, ℤ, is_some, Some, None, Err, Option, Result, sym, refl, ap, ◌∙◌, subst, arith, Bor}
+use Rattle.std.proofs.Common.{◌≡◌, ℕ, ◌+◌, ◌<◌, ◌≤◌, Bool, true, false, ltb, List, [], ◌∷◌, length, get_or, set, ℤ, Some, None, Ok, Err, Option, Result, IsErrAnd, sym, refl, ap, ◌∙◌, arith, Bor}
 use Rattle.std.proofs.lemmas.Bool.{true≢false, cond-true, cond-false, lt-ltb, le-ltb}
 use Rattle.text.specs.declared.refusal.Refusal.{Refusal}
 use Rattle.words.specs.Lexemes.{Lexeme, name, reserved, number, sign, shift, bracket, other, feed, cut, seen}
@@ -9,18 +9,18 @@ use Rattle.words.specs.declared.signs.Sign.{Sign}
 use Rattle.words.specs.declared.tokens.Token.{Token}
 use Rattle.words.specs.declared.tokens.Token.TheVariants as token
 use Rattle.conditions.specs.Trees.{Tree, bracketed}
-use Rattle.conditions.specs.Machine.{Fault, form, limit, unknown, refusal, Seen, Names, Prefix, deny, along, Level, Place, Side, left, right, State, term, operand, field, by, compared, after, Move, go, stop, done, settle, joined, arrived, onward, step, run, found, begin, first, opens, follows, deeper, denied, inside, deep, note, noted, opening, joining, Outcome, refused, accepted}
+use Rattle.conditions.specs.Machine.{Fault, form, limit, refusal, Seen, Names, Prefix, deny, along, Level, Place, Side, left, right, State, term, operand, field, by, compared, after, Move, go, stop, done, settle, joined, arrived, onward, step, run, found, begin, first, opens, follows, deeper, denied, inside, deep, note, noted, opening, joining, Outcome, refused, accepted}
 use Rattle.conditions.specs.Promises.{seen_by, pick, rest, onto, Leads, On, Counts, opened, NoAnd, NoOr}
 use Rattle.conditions.specs.declared.condition.Operand.{Operand}
 use Rattle.conditions.specs.declared.condition.Operand.TheVariants.{Number, Row, Base}
 use Rattle.conditions.specs.declared.condition.Shift.{Shift}
 use Rattle.conditions.specs.declared.condition.Shift.TheVariants.{Bare}
 use Rattle.conditions.specs.declared.condition.Found.{Found}
-use Rattle.conditions.specs.declared.condition.Found.TheVariants.{Value, RowField, BaseField, Unknown, NoOperand}
+use Rattle.conditions.specs.declared.condition.Found.TheVariants.{Value, RowField, BaseField}
 use Rattle.conditions.specs.declared.reader.Opening.{Opening}
 use Rattle.conditions.specs.declared.reader.Opening.TheVariants.{Denial, Bracket, Plain}
 use Rattle.conditions.specs.declared.reader.Joining.{Joining}
-use Rattle.conditions.specs.declared.reader.Joining.TheVariants.{And, Or, Close, End, Nothing}
+use Rattle.conditions.specs.declared.reader.Joining.TheVariants.{And, Or, Close, End}
 use Rattle.conditions.specs.declared.reader.Reader.{Reader}
 
 -- the next word of a reader
@@ -89,8 +89,9 @@ pub goes_on : (e : Names) (r s : Reader) (st st' : State) (x : Lexeme) → x ≡
 goes_on e r s st st' x h g a = moves_at e r st x h ∙ ap (onto e r) g ∙ a e st'
 
 -- a refusal handed on by `?`
-pub fails : {X : Type 0} (e : Names) (s : Reader) (o : Outcome) (st : X → State) (x : Result X Refusal) (y f : Refusal) → x ≡ Err y → y ≡ f → o ≡ refused f → Leads e s o st x
-fails e s o st x y f p q h = subst (Leads e s o st) (sym (p ∙ ap Err q)) h
+pub fails : {X : Type 0} (e : Names) (s : Reader) (o : Outcome) (st : X → State) (x : Result X Refusal) (f : Refusal) → IsErrAnd x (λ y. y ≡ f) → o ≡ refused f → Leads e s o st x
+fails e s o st (Ok v) f m h = absurd m
+fails e s o st (Err y) f m h = h ∙ ap refused (sym m)
 
 -- the same reader
 pub stays : (r s : Reader) → s.words ≡ r.words → s.comparisons ≡ r.comparisons → On r s
@@ -175,86 +176,41 @@ sign_none e σ p o (token.TextEnd l w) h = refl
 
 -- an operand's first word, by what it is
 module _ (e : Names) (r : Reader) (p : Place) (side : Side) where
-  begins : (f : Found) → f ≡ found e (ahead r) → onto e r (begin (seen_by r) p side (found e (ahead r))) ≡ onto e r (begin (seen_by r) p side f)
-  begins f h = ap (λ g. onto e r (begin (seen_by r) p side g)) (sym h)
+  begins : (f : Result Found Fault) → found e (ahead r) ≡ f → onto e r (begin (seen_by r) p side (found e (ahead r))) ≡ onto e r (begin (seen_by r) p side f)
+  begins f h = ap (λ g. onto e r (begin (seen_by r) p side g)) h
 
-  pub value_begins : (s : Reader) (z : ℤ) → Value z ≡ found e (ahead r) → Advanced r s → onto e r (begin (seen_by r) p side (found e (ahead r))) ≡ rest e s (arrived p side (Number z))
-  value_begins s z h a = begins (Value z) h ∙ a e (arrived p side (Number z))
+  pub value_begins : (s : Reader) (z : ℤ) → found e (ahead r) ≡ Ok (Value z) → Advanced r s → onto e r (begin (seen_by r) p side (found e (ahead r))) ≡ rest e s (arrived p side (Number z))
+  value_begins s z h a = begins (Ok (Value z)) h ∙ a e (arrived p side (Number z))
 
-  pub base_begins : (s : Reader) (i : ℕ) → BaseField i ≡ found e (ahead r) → Advanced r s → onto e r (begin (seen_by r) p side (found e (ahead r))) ≡ rest e s (field p side (Base i))
-  base_begins s i h a = begins (BaseField i) h ∙ a e (field p side (Base i))
+  pub base_begins : (s : Reader) (i : ℕ) → found e (ahead r) ≡ Ok (BaseField i) → Advanced r s → onto e r (begin (seen_by r) p side (found e (ahead r))) ≡ rest e s (field p side (Base i))
+  base_begins s i h a = begins (Ok (BaseField i)) h ∙ a e (field p side (Base i))
 
-  pub row_begins : (q s : Reader) (i : ℕ) → RowField i ≡ found e (ahead r) → noted (seen_by r) i ≡ Some (seen_by q) → ((e : Names) (m : Move) → onto e r m ≡ onto e q m) → Advanced q s → onto e r (begin (seen_by r) p side (found e (ahead r))) ≡ rest e s (field p side (Row i))
-  row_begins q s i h n t a = begins (RowField i) h ∙ ap (λ g. onto e r (note g (field p side (Row i)))) n ∙ t e _ ∙ a e (field p side (Row i))
+  pub row_begins : (q s : Reader) (i : ℕ) → found e (ahead r) ≡ Ok (RowField i) → noted (seen_by r) i ≡ Some (seen_by q) → ((e : Names) (m : Move) → onto e r m ≡ onto e q m) → Advanced q s → onto e r (begin (seen_by r) p side (found e (ahead r))) ≡ rest e s (field p side (Row i))
+  row_begins q s i h n t a = begins (Ok (RowField i)) h ∙ ap (λ g. onto e r (note g (field p side (Row i)))) n ∙ t e _ ∙ a e (field p side (Row i))
 
-  pub row_refused : (q : Reader) (i : ℕ) (y : Refusal) → RowField i ≡ found e (ahead r) → false ≡ is_some (noted (seen_by r) i) → ((e : Names) (m : Move) → onto e r m ≡ onto e q m) → y ≡ refusal limit (here q.words) → onto e r (begin (seen_by r) p side (found e (ahead r))) ≡ refused y
-  row_refused q i y h n t g = begins (RowField i) h ∙ ap (λ o. onto e r (note o (field p side (Row i)))) (none (noted (seen_by r) i) n) ∙ t e (stop limit) ∙ tells e q limit y g
-    where
-      none : (o : Option Seen) → false ≡ is_some o → o ≡ None
-      none None h = refl
-      none (Some σ) h = absurd (true≢false (sym h))
+  pub row_refused : (i : ℕ) (y : Refusal) → found e (ahead r) ≡ Ok (RowField i) → noted (seen_by r) i ≡ None → y ≡ refusal limit (here r.words) → onto e r (begin (seen_by r) p side (found e (ahead r))) ≡ refused y
+  row_refused i y h n g = begins (Ok (RowField i)) h ∙ ap (λ o. onto e r (note o (field p side (Row i)))) n ∙ tells e r limit y g
 
-  pub form_refused : (y : Refusal) → NoOperand ≡ found e (ahead r) → y ≡ refusal form (here r.words) → onto e r (begin (seen_by r) p side (found e (ahead r))) ≡ refused y
-  form_refused y h g = begins NoOperand h ∙ tells e r form y g
-
-  pub unknown_refused : (y : Refusal) → Unknown ≡ found e (ahead r) → y ≡ refusal unknown (here r.words) → onto e r (begin (seen_by r) p side (found e (ahead r))) ≡ refused y
-  unknown_refused y h g = begins Unknown h ∙ tells e r unknown y g
+  pub wrong_begins : (w : Fault) (y : Refusal) → found e (ahead r) ≡ Err w → y ≡ refusal w (here r.words) → onto e r (begin (seen_by r) p side (found e (ahead r))) ≡ refused y
+  wrong_begins w y h g = begins (Err w) h ∙ tells e r w y g
 
 pub noted_more : (σ : Seen) (f : ℕ) → get_or σ.fields f false ≡ false → true ≡ ltb σ.different 4 → noted σ f ≡ Some (record { comparisons = σ.comparisons; different = σ.different + 1; fields = set σ.fields f true })
 noted_more σ f g l = cond-false (get_or σ.fields f false) _ _ g ∙ cond-true (ltb σ.different 4) _ _ (sym l)
 
-pub noted_same : (σ : Seen) (f : ℕ) → get_or σ.fields f false ≡ true → noted σ f ≡ Some σ
-noted_same σ f g = cond-true (get_or σ.fields f false) _ _ g
-
-pub noted_none : (σ : Seen) (f : ℕ) → get_or σ.fields f false ≡ false → false ≡ ltb σ.different 4 → noted σ f ≡ None
-noted_none σ f g l = cond-false (get_or σ.fields f false) _ _ g ∙ cond-false (ltb σ.different 4) _ _ (sym l)
-
--- a word that is an operand
-abbrev pub is_bad : Found → Bool
-is_bad Unknown = true
-is_bad NoOperand = true
-is_bad (Value z) = false
-is_bad (RowField f) = false
-is_bad (BaseField f) = false
-
-pub not_bad : (f : Found) → (f ≡ NoOperand → ⊥) → (f ≡ Unknown → ⊥) → is_bad f ≡ false
-not_bad Unknown h k = absurd (k refl)
-not_bad NoOperand h k = absurd (h refl)
-not_bad (Value z) h k = refl
-not_bad (RowField i) h k = refl
-not_bad (BaseField i) h k = refl
-
 -- a comparison's first word
-first_counted : (σ : Seen) (p : Place) (f : Found) → is_bad f ≡ false → true ≡ ltb σ.comparisons 16 → first σ p f ≡ begin (record { comparisons = σ.comparisons + 1; different = σ.different; fields = σ.fields }) p left f
-first_counted σ p Unknown h l = absurd (true≢false h)
-first_counted σ p NoOperand h l = absurd (true≢false h)
-first_counted σ p (Value z) h l = cond-true (ltb σ.comparisons 16) _ _ (sym l)
-first_counted σ p (RowField i) h l = cond-true (ltb σ.comparisons 16) _ _ (sym l)
-first_counted σ p (BaseField i) h l = cond-true (ltb σ.comparisons 16) _ _ (sym l)
+module _ (e : Names) (r : Reader) (p : Place) where
+  firsts : (f : Result Found Fault) → found e (ahead r) ≡ f → onto e r (first (seen_by r) p (found e (ahead r))) ≡ onto e r (first (seen_by r) p f)
+  firsts f h = ap (λ g. onto e r (first (seen_by r) p g)) h
 
-first_many : (σ : Seen) (p : Place) (f : Found) → is_bad f ≡ false → false ≡ ltb σ.comparisons 16 → first σ p f ≡ stop limit
-first_many σ p Unknown h l = absurd (true≢false h)
-first_many σ p NoOperand h l = absurd (true≢false h)
-first_many σ p (Value z) h l = cond-false (ltb σ.comparisons 16) _ _ (sym l)
-first_many σ p (RowField i) h l = cond-false (ltb σ.comparisons 16) _ _ (sym l)
-first_many σ p (BaseField i) h l = cond-false (ltb σ.comparisons 16) _ _ (sym l)
-
-module _ (e : Names) (r : Reader) (p : Place) (f : Found) (is : f ≡ found e (ahead r)) where
-  firsts : onto e r (first (seen_by r) p (found e (ahead r))) ≡ onto e r (first (seen_by r) p f)
-  firsts = ap (λ g. onto e r (first (seen_by r) p g)) (sym is)
-
-  pub counted_on : (s : Reader) → is_bad f ≡ false → true ≡ ltb r.comparisons 16 → seen_by s ≡ record { comparisons = r.comparisons + 1; different = r.different; fields = r.fields } → s.words ≡ r.words → onto e r (first (seen_by r) p (found e (ahead r))) ≡ onto e s (begin (seen_by s) p left (found e (ahead s)))
+  pub counted_on : (s : Reader) (f : Found) → found e (ahead r) ≡ Ok f → true ≡ ltb r.comparisons 16 → seen_by s ≡ record { comparisons = r.comparisons + 1; different = r.different; fields = r.fields } → s.words ≡ r.words → onto e r (first (seen_by r) p (found e (ahead r))) ≡ onto e s (begin (seen_by s) p left (found e (ahead s)))
   unfolding onto
-  counted_on s b l σ w = firsts ∙ ap (onto e r) (first_counted (seen_by r) p f b l) ∙ (λ i. pick e (here (sym w i)) (to_come (sym w i)) (begin (sym σ i) p left (is i))) ∙ ap (λ v. pick e (here s.words) (to_come s.words) (begin (seen_by s) p left (found e (next (to_come v))))) (sym w)
+  counted_on s f h l σ w = firsts (Ok f) h ∙ ap (onto e r) (cond-true (ltb r.comparisons 16) _ _ (sym l)) ∙ (λ i. pick e (here (sym w i)) (to_come (sym w i)) (begin (sym σ i) p left (sym h i))) ∙ ap (λ v. pick e (here s.words) (to_come s.words) (begin (seen_by s) p left (found e (next (to_come v))))) (sym w)
 
-  pub many_refused : (y : Refusal) → is_bad f ≡ false → false ≡ ltb r.comparisons 16 → y ≡ refusal limit (here r.words) → onto e r (first (seen_by r) p (found e (ahead r))) ≡ refused y
-  many_refused y b l h = firsts ∙ ap (onto e r) (first_many (seen_by r) p f b l) ∙ tells e r limit y h
+  pub many_refused : (f : Found) (y : Refusal) → found e (ahead r) ≡ Ok f → false ≡ ltb r.comparisons 16 → y ≡ refusal limit (here r.words) → onto e r (first (seen_by r) p (found e (ahead r))) ≡ refused y
+  many_refused f y h l g = firsts (Ok f) h ∙ ap (onto e r) (cond-false (ltb r.comparisons 16) _ _ (sym l)) ∙ tells e r limit y g
 
-  pub first_form : (y : Refusal) → f ≡ NoOperand → y ≡ refusal form (here r.words) → onto e r (first (seen_by r) p (found e (ahead r))) ≡ refused y
-  first_form y g h = firsts ∙ ap (λ k. onto e r (first (seen_by r) p k)) g ∙ tells e r form y h
-
-  pub first_unknown : (y : Refusal) → f ≡ Unknown → y ≡ refusal unknown (here r.words) → onto e r (first (seen_by r) p (found e (ahead r))) ≡ refused y
-  first_unknown y g h = firsts ∙ ap (λ k. onto e r (first (seen_by r) p k)) g ∙ tells e r unknown y h
+  pub wrong_first : (w : Fault) (y : Refusal) → found e (ahead r) ≡ Err w → y ≡ refusal w (here r.words) → onto e r (first (seen_by r) p (found e (ahead r))) ≡ refused y
+  wrong_first w y h g = firsts (Err w) h ∙ tells e r w y g
 
 -- how a term begins
 module _ (e : Names) (r : Reader) (p : Place) where
@@ -283,59 +239,54 @@ module _ (e : Names) (r : Reader) (p : Place) where
   plainly h = opening_on Plain h
 
 -- where no `and` follows, the terms joined by `or` are one
-shut : (σ : Seen) (o : Option Tree) (t : Tree) (ls : List Level) (j : Joining) → (j ≡ And → ⊥) → follows σ o t ls j ≡ follows σ None (joined o t) ls j
-shut σ o t ls And h = absurd (h refl)
-shut σ o t ls Or h = refl
-shut σ o t [] Close h = refl
-shut σ o t (l ∷ ls) Close h = refl
-shut σ o t [] End h = refl
-shut σ o t (l ∷ ls) End h = refl
-shut σ o t ls Nothing h = refl
+shut : (σ : Seen) (o : Option Tree) (t : Tree) (ls : List Level) (j : Option Joining) → (j ≡ Some And → ⊥) → follows σ o t ls j ≡ follows σ None (joined o t) ls j
+shut σ o t ls (Some And) h = absurd (h refl)
+shut σ o t ls (Some Or) h = refl
+shut σ o t [] (Some Close) h = refl
+shut σ o t (l ∷ ls) (Some Close) h = refl
+shut σ o t [] (Some End) h = refl
+shut σ o t (l ∷ ls) (Some End) h = refl
+shut σ o t ls None h = refl
 
 -- inside a bracket
-unclosed : (σ : Seen) (o : Option Tree) (t : Tree) (l : Level) (ls : List Level) (j : Joining) → (j ≡ And → ⊥) → (j ≡ Or → ⊥) → (j ≡ Close → ⊥) → follows σ o t (l ∷ ls) j ≡ stop form
-unclosed σ o t l ls And a b c = absurd (a refl)
-unclosed σ o t l ls Or a b c = absurd (b refl)
-unclosed σ o t l ls Close a b c = absurd (c refl)
-unclosed σ o t l ls End a b c = refl
-unclosed σ o t l ls Nothing a b c = refl
+unclosed : (σ : Seen) (o : Option Tree) (t : Tree) (l : Level) (ls : List Level) (j : Option Joining) → (j ≡ Some And → ⊥) → (j ≡ Some Or → ⊥) → (j ≡ Some Close → ⊥) → follows σ o t (l ∷ ls) j ≡ stop form
+unclosed σ o t l ls (Some And) a b c = absurd (a refl)
+unclosed σ o t l ls (Some Or) a b c = absurd (b refl)
+unclosed σ o t l ls (Some Close) a b c = absurd (c refl)
+unclosed σ o t l ls (Some End) a b c = refl
+unclosed σ o t l ls None a b c = refl
 
 -- what follows a term
 module _ (e : Names) (r : Reader) (o : Option Tree) (t : Tree) (ls : List Level) where
-  joining_on : (j : Joining) → j ≡ joining (ahead r) → rest e r (after o t ls) ≡ onto e r (follows (seen_by r) o t ls j)
+  joining_on : (j : Option Joining) → j ≡ joining (ahead r) → rest e r (after o t ls) ≡ onto e r (follows (seen_by r) o t ls j)
   joining_on j h = moves e r (after o t ls) ∙ ap (λ y. onto e r (follows (seen_by r) o t ls y)) (sym h)
 
-  pub joins_and : (s : Reader) → And ≡ joining (ahead r) → Advanced r s → rest e r (after o t ls) ≡ rest e s (term (record { here = record { before = along t ∷ []; ors = o }; outer = ls }))
-  joins_and s h a = joining_on And h ∙ a e _
+  pub joins_and : (s : Reader) → Some And ≡ joining (ahead r) → Advanced r s → rest e r (after o t ls) ≡ rest e s (term (record { here = record { before = along t ∷ []; ors = o }; outer = ls }))
+  joins_and s h a = joining_on (Some And) h ∙ a e _
 
-  pub joins_or : (s : Reader) → Or ≡ joining (ahead r) → Advanced r s → rest e r (after o t ls) ≡ rest e s (term (opened (Some (joined o t)) ls))
-  joins_or s h a = joining_on Or h ∙ a e _
+  pub joins_or : (s : Reader) → Some Or ≡ joining (ahead r) → Advanced r s → rest e r (after o t ls) ≡ rest e s (term (opened (Some (joined o t)) ls))
+  joins_or s h a = joining_on (Some Or) h ∙ a e _
 
-  pub closes : (s : Reader) (l : Level) → Close ≡ joining (ahead r) → Advanced r s → rest e r (after o t (l ∷ ls)) ≡ rest e s (settle l.before (bracketed (joined o t)) l.ors ls)
+  pub closes : (s : Reader) (l : Level) → Some Close ≡ joining (ahead r) → Advanced r s → rest e r (after o t (l ∷ ls)) ≡ rest e s (settle l.before (bracketed (joined o t)) l.ors ls)
   closes s l h a = moves e r (after o t (l ∷ ls)) ∙ ap (λ y. onto e r (follows (seen_by r) o t (l ∷ ls) y)) (sym h) ∙ a e _
 
   pub shuts : NoAnd r → rest e r (after o t ls) ≡ rest e r (after None (joined o t) ls)
   shuts n = moves e r (after o t ls) ∙ ap (onto e r) (shut (seen_by r) o t ls (joining (ahead r)) n) ∙ sym (moves e r (after None (joined o t) ls))
 
-  pub not_closed : (l : Level) (y : Refusal) → NoAnd r → NoOr r → (joining (ahead r) ≡ Close → ⊥) → y ≡ refusal form (here r.words) → rest e r (after o t (l ∷ ls)) ≡ refused y
+  pub not_closed : (l : Level) (y : Refusal) → NoAnd r → NoOr r → (joining (ahead r) ≡ Some Close → ⊥) → y ≡ refusal form (here r.words) → rest e r (after o t (l ∷ ls)) ≡ refused y
   not_closed l y a b c g = moves e r (after o t (l ∷ ls)) ∙ ap (onto e r) (unclosed (seen_by r) o t l ls (joining (ahead r)) a b c) ∙ tells e r form y g
 
 -- the end of a condition
-pub ended : (e : Names) (r : Reader) (t : Tree) → End ≡ joining (ahead r) → rest e r (after None t []) ≡ accepted t (seen_by r) (past (ahead r) (here r.words)) (later (to_come r.words))
+pub ended : (e : Names) (r : Reader) (t : Tree) → Some End ≡ joining (ahead r) → rest e r (after None t []) ≡ accepted t (seen_by r) (past (ahead r) (here r.words)) (later (to_come r.words))
 unfolding onto
 ended e r t h = moves e r (after None t []) ∙ ap (λ y. onto e r (follows (seen_by r) None t [] y)) (sym h)
 
-unended : (σ : Seen) (t : Tree) (j : Joining) → (j ≡ And → ⊥) → (j ≡ Or → ⊥) → (j ≡ End → ⊥) → follows σ None t [] j ≡ stop form
-unended σ t And a b c = absurd (a refl)
-unended σ t Or a b c = absurd (b refl)
-unended σ t Close a b c = refl
-unended σ t End a b c = absurd (c refl)
-unended σ t Nothing a b c = refl
+unended : (σ : Seen) (t : Tree) (j : Option Joining) → (j ≡ Some And → ⊥) → (j ≡ Some Or → ⊥) → (j ≡ Some End → ⊥) → follows σ None t [] j ≡ stop form
+unended σ t (Some And) a b c = absurd (a refl)
+unended σ t (Some Or) a b c = absurd (b refl)
+unended σ t (Some Close) a b c = refl
+unended σ t (Some End) a b c = absurd (c refl)
+unended σ t None a b c = refl
 
-pub not_ended : (e : Names) (r : Reader) (t : Tree) (y : Refusal) → NoAnd r → NoOr r → (joining (ahead r) ≡ End → ⊥) → y ≡ refusal form (here r.words) → rest e r (after None t []) ≡ refused y
+pub not_ended : (e : Names) (r : Reader) (t : Tree) (y : Refusal) → NoAnd r → NoOr r → (joining (ahead r) ≡ Some End → ⊥) → y ≡ refusal form (here r.words) → rest e r (after None t []) ≡ refused y
 not_ended e r t y a b c g = moves e r (after None t []) ∙ ap (onto e r) (unended (seen_by r) t (joining (ahead r)) a b c) ∙ tells e r form y g
-
--- a joint is a word, so that one word fewer is to come after it
-pub joint_falls : (xs : List Lexeme) (j : Joining) → j ≡ joining (next xs) → (j ≡ Nothing → ⊥) → length (later xs) < length xs
-joint_falls [] j h n = absurd (n h)
-joint_falls (x ∷ xs) j h n = omega arith

@@ -1,23 +1,23 @@
 -- The row fields that are noted are those that the accepted condition reads. Assumes nothing.
-use Rattle.std.proofs.Common.{◌≡◌, ℕ, zero, suc, ◌+◌, ◌<◌, ◌≤◌, Bool, true, false, cond, ◌||◌, eqb, ltb, ◌⊎◌, List, [], ◌∷◌, length, get_or, set, replicate, Some, None, Option, sym, refl, ap, ◌∙◌, subst, inl, inr, arith, length-set}
+use Rattle.std.proofs.Common.{◌≡◌, ℕ, zero, suc, ◌+◌, ◌<◌, ◌≤◌, Bool, true, false, cond, ◌||◌, eqb, ltb, ◌⊎◌, List, [], ◌∷◌, length, get_or, set, replicate, Some, None, Ok, Err, Option, Result, sym, refl, ap, ◌∙◌, subst, inl, inr, arith, length-set}
 use Rattle.std.proofs.lemmas.Bool.{true≢false, lt-ltb, le-ltb, ltb-true, ltb-false, cases_eq, eq-eqb, ne_eqb, cond-true, cond-false}
 use Rattle.std.proofs.lemmas.List.{get_or-set_same, get_or-set_other}
 use Rattle.words.specs.Lexemes.{Lexeme, name, reserved, number, sign, shift, bracket, other, feed, cut}
 use Rattle.words.specs.Spots.{Spot, past}
 use Rattle.conditions.specs.Trees.{Tree, compare, denial, bracketed, both, either, reads, operand_reads}
 use Rattle.conditions.specs.Keys.{marked}
-use Rattle.conditions.specs.Machine.{limit, refusal, Seen, Names, Prefix, deny, along, Level, Place, deep, Side, left, right, State, term, operand, field, by, compared, after, Move, go, stop, done, settle, joined, arrived, onward, step, run, found, begin, first, counted, opens, follows, deeper, denied, inside, note, at_sign, at_by, at_field, shifted, shift_of, opening, joining, Outcome, refused, accepted}
+use Rattle.conditions.specs.Machine.{Fault, form, limit, refusal, Seen, Names, Prefix, deny, along, Level, Place, deep, Side, left, right, State, term, operand, field, by, compared, after, Move, go, stop, done, settle, joined, arrived, onward, step, run, found, begin, first, counted, opens, follows, deeper, denied, inside, note, at_sign, at_by, at_field, shifted, shift_of, opening, joining, Outcome, refused, accepted}
 use Rattle.conditions.specs.Promises.{opened, unread, condition_of}
 use Rattle.conditions.specs.declared.reader.Opening.{Opening}
 use Rattle.conditions.specs.declared.reader.Opening.TheVariants.{Denial, Bracket, Plain}
 use Rattle.conditions.specs.declared.reader.Joining.{Joining}
-use Rattle.conditions.specs.declared.reader.Joining.TheVariants.{And, Or, Close, End, Nothing}
+use Rattle.conditions.specs.declared.reader.Joining.TheVariants.{And, Or, Close, End}
 use Rattle.conditions.specs.declared.condition.Shift.{Shift}
 use Rattle.conditions.specs.declared.condition.Shift.TheVariants.{Bare}
 use Rattle.conditions.specs.declared.condition.Operand.{Operand}
 use Rattle.conditions.specs.declared.condition.Operand.TheVariants.{Number, Row, Base}
 use Rattle.conditions.specs.declared.condition.Found.{Found}
-use Rattle.conditions.specs.declared.condition.Found.TheVariants.{Value, RowField, BaseField, Unknown, NoOperand}
+use Rattle.conditions.specs.declared.condition.Found.TheVariants.{Value, RowField, BaseField}
 
 -- how often an operand reads the row field f
 abbrev times_in : ℕ → Operand → ℕ
@@ -64,17 +64,21 @@ marked_more (false ∷ fs) zero h e = refl
 marked_more (true ∷ fs) (suc i) h e = ap (λ n. n + 1) (marked_more fs i (omega arith) e)
 marked_more (false ∷ fs) (suc i) h e = marked_more fs i (omega arith) e
 
+-- what is wrong is no field
+no_field : (w : Fault) (i : ℕ) → ◌≡◌ {A = Result Found Fault} (Err w) (Ok (RowField i)) → i < 8
+no_field w i h = let z : ◌≡◌ {A = ℕ} 0 1 = cc in absurd (omega arith)
+
 -- the fields that names give
-known : (e : Names) → ((w : List ℕ) (i : ℕ) → e w ≡ RowField i → i < 8) → (x : Lexeme) (i : ℕ) → found e x ≡ RowField i → i < 8
+known : (e : Names) → ((w : List ℕ) (i : ℕ) → e w ≡ Ok (RowField i) → i < 8) → (x : Lexeme) (i : ℕ) → found e x ≡ Ok (RowField i) → i < 8
 known e q (name u w) i h = q w i h
-known e q (reserved j) i h = let z : ◌≡◌ {A = ℕ} 0 1 = cc in absurd (omega arith)
+known e q (reserved j) i h = no_field form i h
 known e q (number n) i h = let z : ◌≡◌ {A = ℕ} 0 1 = cc in absurd (omega arith)
-known e q (sign s) i h = let z : ◌≡◌ {A = ℕ} 0 1 = cc in absurd (omega arith)
-known e q (shift b) i h = let z : ◌≡◌ {A = ℕ} 0 1 = cc in absurd (omega arith)
-known e q (bracket b) i h = let z : ◌≡◌ {A = ℕ} 0 1 = cc in absurd (omega arith)
-known e q other i h = let z : ◌≡◌ {A = ℕ} 0 1 = cc in absurd (omega arith)
-known e q feed i h = let z : ◌≡◌ {A = ℕ} 0 1 = cc in absurd (omega arith)
-known e q cut i h = let z : ◌≡◌ {A = ℕ} 0 1 = cc in absurd (omega arith)
+known e q (sign s) i h = no_field form i h
+known e q (shift b) i h = no_field form i h
+known e q (bracket b) i h = no_field form i h
+known e q other i h = no_field form i h
+known e q feed i h = no_field form i h
+known e q cut i h = no_field form i h
 
 -- a field is noted exactly when it is read
 record Told (f n : ℕ) (σ : Seen) : Type 0 where
@@ -148,12 +152,11 @@ module _ (f : ℕ) where
   arrived_kept σ p left o k = (same _ _ σ (omega arith) k, tt)
   arrived_kept σ p (right l s) o k = (same _ _ σ (omega (arith, settle_weight p.here.before (compare (record { left = l; sign = s; right = o })) p.here.ors p.outer)) k, settle_steady p.here.before (compare (record { left = l; sign = s; right = o })) p.here.ors p.outer)
 
-  begin_kept : (σ : Seen) (p : Place) (side : Side) (g : Found) → ((i : ℕ) → g ≡ RowField i → i < 8) → Told f (at p + ws side) σ → Moved (begin σ p side g)
-  begin_kept σ p side (Value z) q k = arrived_kept σ p side (Number z) (same _ _ σ (omega arith) k)
-  begin_kept σ p side (BaseField i) q k = (same _ _ σ (omega arith) k, λ z. refl)
-  begin_kept σ p side Unknown q k = tt
-  begin_kept σ p side NoOperand q k = tt
-  begin_kept σ p side (RowField i) q k = by_cases (get_or σ.fields i false) (ltb σ.different 4) refl refl
+  begin_kept : (σ : Seen) (p : Place) (side : Side) (g : Result Found Fault) → ((i : ℕ) → g ≡ Ok (RowField i) → i < 8) → Told f (at p + ws side) σ → Moved (begin σ p side g)
+  begin_kept σ p side (Ok (Value z)) q k = arrived_kept σ p side (Number z) (same _ _ σ (omega arith) k)
+  begin_kept σ p side (Ok (BaseField i)) q k = (same _ _ σ (omega arith) k, λ z. refl)
+  begin_kept σ p side (Err w) q k = tt
+  begin_kept σ p side (Ok (RowField i)) q k = by_cases (get_or σ.fields i false) (ltb σ.different 4) refl refl
     where
       hit : (τ : Seen) → length τ.fields ≡ 8 → τ.different ≤ 4 → marked τ.fields ≡ τ.different → get_or τ.fields i false ≡ true → ((i ≡ f → ⊥) → get_or τ.fields f false ≡ get_or σ.fields f false) → Told f (at p + ws side + cond (eqb i f) 1 0) τ
       hit τ l x y h o = split (cases_eq i f)
@@ -173,19 +176,16 @@ module _ (f : ℕ) where
           (hit (record { comparisons = σ.comparisons; different = σ.different + 1; fields = set σ.fields i true }) (length-set σ.fields i true ∙ k.eight) (omega (arith, ltb-true _ 4 m)) (marked_more σ.fields i more h ∙ ap (λ n. n + 1) k.marks) (get_or-set_same σ.fields i true false more) (λ n. get_or-set_other σ.fields i f true false (λ e. n (sym e))), λ z. refl)
       by_cases false false h m = tt
 
-  counted_kept : (σ : Seen) (p : Place) (g : Found) → ((i : ℕ) → g ≡ RowField i → i < 8) → Told f (at p) σ → Moved (counted σ p g)
+  counted_kept : (σ : Seen) (p : Place) (g : Found) → ((i : ℕ) → ◌≡◌ {A = Result Found Fault} (Ok g) (Ok (RowField i)) → i < 8) → Told f (at p) σ → Moved (counted σ p g)
   counted_kept σ p g q k = by_cases (ltb σ.comparisons 16)
     where
-      by_cases : (b : Bool) → Moved (cond b (begin (record { comparisons = σ.comparisons + 1; different = σ.different; fields = σ.fields }) p left g) (stop limit))
-      by_cases true = begin_kept _ p left g q (record { noted_read = λ y. omega (arith, k.noted_read y); read_noted = λ y. k.read_noted (omega (arith, y)); eight = k.eight; few = k.few; marks = k.marks })
+      by_cases : (b : Bool) → Moved (cond b (begin (record { comparisons = σ.comparisons + 1; different = σ.different; fields = σ.fields }) p left (Ok g)) (stop limit))
+      by_cases true = begin_kept _ p left (Ok g) q (record { noted_read = λ y. omega (arith, k.noted_read y); read_noted = λ y. k.read_noted (omega (arith, y)); eight = k.eight; few = k.few; marks = k.marks })
       by_cases false = tt
 
-  first_kept : (σ : Seen) (p : Place) (g : Found) → ((i : ℕ) → g ≡ RowField i → i < 8) → Told f (at p) σ → Moved (first σ p g)
-  first_kept σ p Unknown q k = tt
-  first_kept σ p NoOperand q k = tt
-  first_kept σ p (Value z) q k = counted_kept σ p (Value z) q k
-  first_kept σ p (RowField i) q k = counted_kept σ p (RowField i) q k
-  first_kept σ p (BaseField i) q k = counted_kept σ p (BaseField i) q k
+  first_kept : (σ : Seen) (p : Place) (g : Result Found Fault) → ((i : ℕ) → g ≡ Ok (RowField i) → i < 8) → Told f (at p) σ → Moved (first σ p g)
+  first_kept σ p (Ok g) q k = counted_kept σ p g q k
+  first_kept σ p (Err w) q k = tt
 
   deeper_kept : (σ : Seen) (p q : Place) → Told f (at q) σ → Moved (deeper σ p q)
   deeper_kept σ p q k = by_cases (ltb (deep p) 8)
@@ -194,7 +194,7 @@ module _ (f : ℕ) where
       by_cases true = (k, tt)
       by_cases false = tt
 
-  opens_kept : (e : Names) → ((w : List ℕ) (i : ℕ) → e w ≡ RowField i → i < 8) → (σ : Seen) (p : Place) (x : Lexeme) (o : Opening) → Told f (at p) σ → Moved (opens e σ p x o)
+  opens_kept : (e : Names) → ((w : List ℕ) (i : ℕ) → e w ≡ Ok (RowField i) → i < 8) → (σ : Seen) (p : Place) (x : Lexeme) (o : Opening) → Told f (at p) σ → Moved (opens e σ p x o)
   opens_kept e q σ p x Denial k = deeper_kept σ p (denied p) k
   opens_kept e q σ p x Bracket k = deeper_kept σ p (inside p) (same _ _ σ (omega arith) k)
   opens_kept e q σ p x Plain k = first_kept σ p (found e x) (known e q x) k
@@ -214,14 +214,14 @@ module _ (f : ℕ) where
   joined_reads None t = omega arith
   joined_reads (Some u) t = refl
 
-  follows_kept : (σ : Seen) (o : Option Tree) (t : Tree) (ls : List Level) (j : Joining) → Told f (wo o + times f t + wl ls) σ → Moved (follows σ o t ls j)
-  follows_kept σ o t ls And k = (same _ _ σ (omega arith) k, tt)
-  follows_kept σ o t ls Or k = (same _ _ σ (omega (arith, joined_reads o t)) k, tt)
-  follows_kept σ o t [] Close k = tt
-  follows_kept σ o t (l ∷ ls) Close k = (same _ _ σ (omega (arith, joined_reads o t, settle_weight l.before (bracketed (joined o t)) l.ors ls)) k, settle_steady l.before (bracketed (joined o t)) l.ors ls)
-  follows_kept σ o t [] End k = same _ _ σ (omega (arith, joined_reads o t)) k
-  follows_kept σ o t (l ∷ ls) End k = tt
-  follows_kept σ o t ls Nothing k = tt
+  follows_kept : (σ : Seen) (o : Option Tree) (t : Tree) (ls : List Level) (j : Option Joining) → Told f (wo o + times f t + wl ls) σ → Moved (follows σ o t ls j)
+  follows_kept σ o t ls (Some And) k = (same _ _ σ (omega arith) k, tt)
+  follows_kept σ o t ls (Some Or) k = (same _ _ σ (omega (arith, joined_reads o t)) k, tt)
+  follows_kept σ o t [] (Some Close) k = tt
+  follows_kept σ o t (l ∷ ls) (Some Close) k = (same _ _ σ (omega (arith, joined_reads o t, settle_weight l.before (bracketed (joined o t)) l.ors ls)) k, settle_steady l.before (bracketed (joined o t)) l.ors ls)
+  follows_kept σ o t [] (Some End) k = same _ _ σ (omega (arith, joined_reads o t)) k
+  follows_kept σ o t (l ∷ ls) (Some End) k = tt
+  follows_kept σ o t ls None k = tt
 
   onward_kept : (σ : Seen) (st : State) (x : Lexeme) → Kept st σ → Moved (onward σ st x)
   onward_kept σ (after o t ls) x k = follows_kept σ o t ls (joining x) k.0
@@ -257,7 +257,7 @@ module _ (f : ℕ) where
   by_kept σ p side mk b feed k = tt
   by_kept σ p side mk b cut k = tt
 
-  step_kept : (e : Names) → ((w : List ℕ) (i : ℕ) → e w ≡ RowField i → i < 8) → (σ : Seen) (st : State) (x : Lexeme) → Kept st σ → Moved (step e σ st x)
+  step_kept : (e : Names) → ((w : List ℕ) (i : ℕ) → e w ≡ Ok (RowField i) → i < 8) → (σ : Seen) (st : State) (x : Lexeme) → Kept st σ → Moved (step e σ st x)
   step_kept e q σ (term p) x k = opens_kept e q σ p x (opening x) k.0
   step_kept e q σ (operand p l s) x k = begin_kept σ p (right l s) (found e x) (known e q x) k.0
   step_kept e q σ (field p side mk) x k = field_kept σ p side mk x k
@@ -269,7 +269,7 @@ module _ (f : ℕ) where
   Ended (accepted t σ at xs) = Told f (times f t) σ
   Ended (refused y) = Unit {0}
 
-  run_kept : (e : Names) → ((w : List ℕ) (i : ℕ) → e w ≡ RowField i → i < 8) → (σ : Seen) (st : State) (at : Spot) (xs : List Lexeme) → Kept st σ → Ended (run e σ st at xs)
+  run_kept : (e : Names) → ((w : List ℕ) (i : ℕ) → e w ≡ Ok (RowField i) → i < 8) → (σ : Seen) (st : State) (at : Spot) (xs : List Lexeme) → Kept st σ → Ended (run e σ st at xs)
   run_kept e q σ st at [] h = tt
   run_kept e q σ st at (x ∷ xs) h = on (λ σ' st' g. run_kept e q σ' st' (past x at) xs g) (step e σ st x) (step_kept e q σ st x h)
     where
@@ -283,7 +283,7 @@ none_yet zero f = refl
 none_yet (suc n) zero = refl
 none_yet (suc n) (suc f) = none_yet n f
 
-pub notes_fields : (e : Names) → ((w : List ℕ) (i : ℕ) → e w ≡ RowField i → i < 8) → (at : Spot) (xs : List Lexeme) (t : Tree) (σ : Seen) (at' : Spot) (ys : List Lexeme) → condition_of e at xs ≡ accepted t σ at' ys → (length σ.fields ≡ 8) × ((f : ℕ) → get_or σ.fields f false ≡ reads f t) × (marked σ.fields ≤ 4)
+pub notes_fields : (e : Names) → ((w : List ℕ) (i : ℕ) → e w ≡ Ok (RowField i) → i < 8) → (at : Spot) (xs : List Lexeme) (t : Tree) (σ : Seen) (at' : Spot) (ys : List Lexeme) → condition_of e at xs ≡ accepted t σ at' ys → (length σ.fields ≡ 8) × ((f : ℕ) → get_or σ.fields f false ≡ reads f t) × (marked σ.fields ≤ 4)
 unfolding condition_of
 notes_fields e q at xs t σ at' ys h = ((all 0).eight, λ f. told (get_or σ.fields f false) (times f t) (all f).noted_read (all f).read_noted ∙ all_times f t, omega (arith, (all 0).few, (all 0).marks))
   where

@@ -1,6 +1,6 @@
 -- The condition that words write, read from left to right, one word at a time: what may stand where, and what is
 -- wrong where something else stands. Assumes nothing.
-use Rattle.std.specs.Prelude.{ℕ, ◌+◌, Bool, true, false, cond, List, [], ◌∷◌, ℤ, pos, negsuc, Some, None, Option, nat_lt, slice_index_or, slice_set}
+use Rattle.std.specs.Prelude.{ℕ, ◌+◌, Bool, true, false, cond, List, [], ◌∷◌, ℤ, pos, negsuc, Some, None, Ok, Err, Option, Result, nat_lt, slice_index_or, slice_set}
 use Rattle.text.specs.declared.refusal.Refusal.{Refusal}
 use Rattle.text.specs.declared.refusal.Refusal.TheVariants.{PlanForm, NameTaken, UnknownField, PlanLimit}
 use Rattle.words.specs.Lexemes.{Lexeme, name, reserved, number, sign, shift, bracket, other, feed, cut}
@@ -8,33 +8,48 @@ use Rattle.words.specs.Spots.{Spot, past}
 use Rattle.words.specs.declared.signs.Sign.{Sign}
 use Rattle.words.specs.declared.tokens.Keyword.{Keyword}
 use Rattle.words.specs.declared.tokens.Keyword.TheVariants as keywords
+use Rattle.conditions.specs.declared.wrong.Wrong.{Wrong}
+use Rattle.conditions.specs.declared.wrong.Wrong.TheVariants as wrongs
 use Rattle.conditions.specs.declared.reader.Joint.{Joint}
 use Rattle.conditions.specs.declared.reader.Joint.TheVariants as joints
 use Rattle.conditions.specs.declared.reader.Opening.{Opening}
 use Rattle.conditions.specs.declared.reader.Opening.TheVariants.{Denial, Bracket, Plain}
 use Rattle.conditions.specs.declared.reader.Joining.{Joining}
-use Rattle.conditions.specs.declared.reader.Joining.TheVariants.{And, Or, Close, End, Nothing}
+use Rattle.conditions.specs.declared.reader.Joining.TheVariants.{And, Or, Close, End}
 use Rattle.conditions.specs.declared.condition.Shift.{Shift}
 use Rattle.conditions.specs.declared.condition.Shift.TheVariants.{Bare, Plus, Minus}
 use Rattle.conditions.specs.declared.condition.Operand.{Operand}
 use Rattle.conditions.specs.declared.condition.Operand.TheVariants.{Number, Row, Base}
 use Rattle.conditions.specs.declared.condition.Found.{Found}
-use Rattle.conditions.specs.declared.condition.Found.TheVariants.{Value, RowField, BaseField, Unknown, NoOperand}
+use Rattle.conditions.specs.declared.condition.Found.TheVariants.{Value, RowField, BaseField}
 use Rattle.conditions.specs.Trees.{Tree, compare, denial, bracketed, both, either}
 
 -- what is wrong with a word: the form, a name used again or reserved, a name of no field, one too many
-pub data Fault : Type 0 where
-  form : Fault
-  taken : Fault
-  unknown : Fault
-  limit : Fault
+abbrev pub Fault : Type 0
+Fault = Wrong
+
+-- the form is broken
+abbrev pub form : Fault
+form = wrongs.Form
+
+-- a name is used again or reserved
+abbrev pub taken : Fault
+taken = wrongs.Taken
+
+-- a name is that of no field
+abbrev pub unknown : Fault
+unknown = wrongs.Unknown
+
+-- one is too many
+abbrev pub limit : Fault
+limit = wrongs.Limit
 
 -- the refusal of a word at its place
 abbrev pub refusal : Fault → Spot → Refusal
-refusal form at = PlanForm at.line at.word
-refusal taken at = NameTaken at.line at.word
-refusal unknown at = UnknownField at.line at.word
-refusal limit at = PlanLimit at.line at.word
+refusal wrongs.Form at = PlanForm at.line at.word
+refusal wrongs.Taken at = NameTaken at.line at.word
+refusal wrongs.Unknown at = UnknownField at.line at.word
+refusal wrongs.Limit at = PlanLimit at.line at.word
 
 -- how many comparisons were read, how many different row fields, and which
 pub record Seen : Type 0 where
@@ -115,19 +130,19 @@ arrived p (right l s) o = settled p (compare (record { left = l; sign = s; right
 
 -- the field that a name is
 abbrev pub Names : Type 0
-Names = List ℕ → Found
+Names = List ℕ → Result Found Fault
 
 -- what a word is as an operand
-abbrev pub found : Names → Lexeme → Found
+abbrev pub found : Names → Lexeme → Result Found Fault
 found e (name upper w) = e w
-found e (reserved k) = NoOperand
-found e (number z) = Value z
-found e (sign s) = NoOperand
-found e (shift b) = NoOperand
-found e (bracket b) = NoOperand
-found e other = NoOperand
-found e feed = NoOperand
-found e cut = NoOperand
+found e (reserved k) = Err form
+found e (number z) = Ok (Value z)
+found e (sign s) = Err form
+found e (shift b) = Err form
+found e (bracket b) = Err form
+found e other = Err form
+found e feed = Err form
+found e cut = Err form
 
 -- one row field more, of at most four different ones
 abbrev pub noted : Seen → ℕ → Option Seen
@@ -141,24 +156,20 @@ note None st = stop limit
 note (Some σ) st = go st σ
 
 -- an operand's first word
-abbrev pub begin : Seen → Place → Side → Found → Move
-begin σ p side (Value z) = go (arrived p side (Number z)) σ
-begin σ p side (RowField f) = note (noted σ f) (field p side (Row f))
-begin σ p side (BaseField f) = go (field p side (Base f)) σ
-begin σ p side Unknown = stop unknown
-begin σ p side NoOperand = stop form
+abbrev pub begin : Seen → Place → Side → Result Found Fault → Move
+begin σ p side (Ok (Value z)) = go (arrived p side (Number z)) σ
+begin σ p side (Ok (RowField f)) = note (noted σ f) (field p side (Row f))
+begin σ p side (Ok (BaseField f)) = go (field p side (Base f)) σ
+begin σ p side (Err w) = stop w
 
 -- a comparison more, of at most 16
 abbrev pub counted : Seen → Place → Found → Move
-counted σ p f = cond (nat_lt σ.comparisons 16) (begin (record { comparisons = σ.comparisons + 1; different = σ.different; fields = σ.fields }) p left f) (stop limit)
+counted σ p f = cond (nat_lt σ.comparisons 16) (begin (record { comparisons = σ.comparisons + 1; different = σ.different; fields = σ.fields }) p left (Ok f)) (stop limit)
 
 -- a comparison's first word: one too many is refused there, if the word is an operand
-abbrev pub first : Seen → Place → Found → Move
-first σ p Unknown = stop unknown
-first σ p NoOperand = stop form
-first σ p (Value z) = counted σ p (Value z)
-first σ p (RowField f) = counted σ p (RowField f)
-first σ p (BaseField f) = counted σ p (BaseField f)
+abbrev pub first : Seen → Place → Result Found Fault → Move
+first σ p (Ok f) = counted σ p f
+first σ p (Err w) = stop w
 
 -- `not` and brackets nest at most eight deep
 abbrev pub deeper : Seen → Place → Place → Move
@@ -173,25 +184,25 @@ abbrev pub inside : Place → Place
 inside p = record { here = record { before = []; ors = None }; outer = p.here ∷ p.outer }
 
 -- the keywords that join terms
-abbrev pub joint : Keyword → Joint
-joint keywords.And = joints.And
-joint keywords.Or = joints.Or
-joint keywords.Not = joints.Not
-joint keywords.Rows = joints.NoJoint
-joint keywords.Base = joints.NoJoint
-joint keywords.Where = joints.NoJoint
-joint keywords.Count = joints.NoJoint
-joint keywords.Sum = joints.NoJoint
-joint keywords.Least = joints.NoJoint
-joint keywords.Greatest = joints.NoJoint
-joint keywords.Mean = joints.NoJoint
+abbrev pub joint : Keyword → Option Joint
+joint keywords.And = Some joints.And
+joint keywords.Or = Some joints.Or
+joint keywords.Not = Some joints.Not
+joint keywords.Rows = None
+joint keywords.Base = None
+joint keywords.Where = None
+joint keywords.Count = None
+joint keywords.Sum = None
+joint keywords.Least = None
+joint keywords.Greatest = None
+joint keywords.Mean = None
 
 -- how a joint begins a term
-abbrev pub opening_joint : Joint → Opening
-opening_joint joints.Not = Denial
-opening_joint joints.And = Plain
-opening_joint joints.Or = Plain
-opening_joint joints.NoJoint = Plain
+abbrev pub opening_joint : Option Joint → Opening
+opening_joint (Some joints.Not) = Denial
+opening_joint (Some joints.And) = Plain
+opening_joint (Some joints.Or) = Plain
+opening_joint None = Plain
 
 -- how a word begins a term
 abbrev pub opening : Lexeme → Opening
@@ -206,23 +217,23 @@ opening feed = Plain
 opening cut = Plain
 
 -- how a joint follows a term
-abbrev pub joining_joint : Joint → Joining
-joining_joint joints.And = And
-joining_joint joints.Or = Or
-joining_joint joints.Not = Nothing
-joining_joint joints.NoJoint = Nothing
+abbrev pub joining_joint : Option Joint → Option Joining
+joining_joint (Some joints.And) = Some And
+joining_joint (Some joints.Or) = Some Or
+joining_joint (Some joints.Not) = None
+joining_joint None = None
 
 -- how a word follows a term
-abbrev pub joining : Lexeme → Joining
+abbrev pub joining : Lexeme → Option Joining
 joining (reserved k) = joining_joint (joint k)
-joining (bracket o) = cond o Nothing Close
-joining feed = End
-joining (name upper w) = Nothing
-joining (number z) = Nothing
-joining (sign s) = Nothing
-joining (shift b) = Nothing
-joining other = Nothing
-joining cut = Nothing
+joining (bracket o) = cond o None (Some Close)
+joining feed = Some End
+joining (name upper w) = None
+joining (number z) = None
+joining (sign s) = None
+joining (shift b) = None
+joining other = None
+joining cut = None
 
 -- a term's first word
 abbrev pub opens : Names → Seen → Place → Lexeme → Opening → Move
@@ -253,12 +264,12 @@ finish σ o t [] = done (joined o t) σ
 finish σ o t (l ∷ ls) = stop form
 
 -- what follows a term
-abbrev pub follows : Seen → Option Tree → Tree → List Level → Joining → Move
-follows σ o t ls And = go (term (record { here = record { before = along t ∷ []; ors = o }; outer = ls })) σ
-follows σ o t ls Or = go (term (record { here = record { before = []; ors = Some (joined o t) }; outer = ls })) σ
-follows σ o t ls Close = close σ o t ls
-follows σ o t ls End = finish σ o t ls
-follows σ o t ls Nothing = stop form
+abbrev pub follows : Seen → Option Tree → Tree → List Level → Option Joining → Move
+follows σ o t ls (Some And) = go (term (record { here = record { before = along t ∷ []; ors = o }; outer = ls })) σ
+follows σ o t ls (Some Or) = go (term (record { here = record { before = []; ors = Some (joined o t) }; outer = ls })) σ
+follows σ o t ls (Some Close) = close σ o t ls
+follows σ o t ls (Some End) = finish σ o t ls
+follows σ o t ls None = stop form
 
 -- what a number adds (true) or takes away: only one without sign can stand there
 abbrev pub shift_of : Bool → ℤ → Option Shift

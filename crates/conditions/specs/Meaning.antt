@@ -1,5 +1,5 @@
 -- What a condition says of a row and a base row. Assumes nothing.
-use Rattle.std.specs.Prelude.{Bool, true, not, ◌&&◌, ◌||◌, List, [], ◌∷◌, reverse, take, ℤ, pos, ◌+ℤ◌, ◌-ℤ◌, Some, None, Option, int_le, int_lt, slice_index_or}
+use Rattle.std.specs.Prelude.{Bool, true, not, ◌&&◌, ◌||◌, List, [], ◌∷◌, reverse, ℤ, pos, ◌+ℤ◌, ◌-ℤ◌, Some, None, Option, int_le, int_lt, slice_index_or}
 use Rattle.words.specs.declared.signs.Sign.{Sign}
 use Rattle.words.specs.declared.signs.Sign.TheVariants.{Equal, Unequal, Less, AtMost, Greater, AtLeast}
 use Rattle.conditions.specs.declared.condition.Shift.{Shift}
@@ -8,7 +8,7 @@ use Rattle.conditions.specs.declared.condition.Operand.{Operand}
 use Rattle.conditions.specs.declared.condition.Operand.TheVariants.{Number, Row, Base}
 use Rattle.conditions.specs.declared.condition.Comparison.{Comparison}
 use Rattle.conditions.specs.declared.condition.Step.{Step}
-use Rattle.conditions.specs.declared.truths.Truths.{Truths}
+use Rattle.arrayvec.specs.ArrayVec.{ArrayVec}
 use Rattle.conditions.specs.Trees.{Tree, compare, denial, bracketed, both, either}
 use Rattle.conditions.specs.Postfix.{work}
 
@@ -59,8 +59,8 @@ abbrev pub judge : List ℤ → List ℤ → Step → List Bool → List Bool
 judge row base = work (record { leaf = compared row base; deny = not; wrap = as_is; meet = ◌&&◌; join = ◌||◌ })
 
 -- the truths on the stack, the last first
-unfoldable pub stacked : Truths → List Bool
-stacked t = reverse (take t.high t.held)
+abbrev pub stacked : ArrayVec Bool → List Bool
+stacked t = reverse t.items
 
 -- the last of them; with none, true
 abbrev pub verdict : List Bool → Bool

@@ -8,11 +8,11 @@ use Rattle.words.specs.Tables.{texts, place}
 use Rattle.words.specs.declared.cursor.Words.{Words}
 use Rattle.conditions.specs.Trees.{Tree, compare, reads, comparisons, Within}
 use Rattle.conditions.specs.Keys.{marked}
-use Rattle.conditions.specs.Machine.{Seen, Place, State, Move, Outcome, Names, Side, Level, term, after, settled, arrived, begin, first, go, stop, done, run, accepted, refused, refusal, deep, joining, field, found}
+use Rattle.conditions.specs.Machine.{Fault, unknown, limit, Seen, noted, Place, State, Move, Outcome, Names, Side, Level, term, after, settled, arrived, begin, first, go, stop, done, run, accepted, refused, refusal, deep, joining, field, found}
 use Rattle.conditions.specs.Postfix.{trees, tree}
 use Rattle.conditions.specs.declared.reader.Joining.TheVariants.{And, Or}
 use Rattle.conditions.specs.declared.condition.Found.{Found}
-use Rattle.conditions.specs.declared.condition.Found.TheVariants.{Value, RowField, BaseField, Unknown, NoOperand}
+use Rattle.conditions.specs.declared.condition.Found.TheVariants.{Value, RowField, BaseField}
 use Rattle.conditions.specs.declared.condition.FieldNames.{FieldNames}
 use Rattle.conditions.specs.declared.condition.Shift.{Shift}
 use Rattle.conditions.specs.declared.condition.Operand.{Operand}
@@ -46,10 +46,10 @@ pub record On (r s : Reader) : Type 0 where
   pub few : r.comparisons ≤ 16 → s.comparisons ≤ 16
 
 -- a row field, or a base field, or none
-abbrev pub named : Option ℕ → Option ℕ → Found
-named (Some i) b = RowField i
-named None (Some i) = BaseField i
-named None None = Unknown
+abbrev pub named : Option ℕ → Option ℕ → Result Found Fault
+named (Some i) b = Ok (RowField i)
+named None (Some i) = Ok (BaseField i)
+named None None = Err unknown
 
 -- the field that a word names: a row field first
 unfoldable pub looks : FieldNames → Names
@@ -60,8 +60,14 @@ abbrev pub Known : Found → Type 0
 Known (RowField f) = f < 8
 Known (BaseField f) = Unit {0}
 Known (Value z) = Unit {0}
-Known Unknown = Unit {0}
-Known NoOperand = Unit {0}
+
+-- what the next word is as an operand, or its refusal
+abbrev pub Finds : Names → Reader → Result Found Refusal → Type 0
+Finds e r x = MatchResult x (λ f. found e (next (to_come r.words)) ≡ Ok f) (λ y. (w : Fault) × (found e (next (to_come r.words)) ≡ Err w) × (y ≡ refusal w (here r.words)))
+
+-- noting a row field, or the refusal of one too many
+abbrev pub Notes : Reader → Reader → ℕ → Result (Unit {0}) Refusal → Type 0
+Notes r s f x = MatchResult x (λ _. noted (seen_by r) f ≡ Some (seen_by s)) (λ y. (noted (seen_by r) f ≡ None) × (y ≡ refusal limit (here r.words)))
 
 -- a call's result leads on from the outcome o to a state, or is the refusal that o is
 abbrev pub Leads : {X : Type 0} → Names → Reader → Outcome → (X → State) → Result X Refusal → Type 0
@@ -112,11 +118,11 @@ ReadsOrs e r s c depth x = (ls : List Level) → deep (opened None ls) + depth �
 
 -- no `and` follows
 abbrev pub NoAnd : Reader → Type 0
-NoAnd r = joining (next (to_come r.words)) ≡ And → ⊥
+NoAnd r = joining (next (to_come r.words)) ≡ Some And → ⊥
 
 -- no `or` follows
 abbrev pub NoOr : Reader → Type 0
-NoOr r = joining (next (to_come r.words)) ≡ Or → ⊥
+NoOr r = joining (next (to_come r.words)) ≡ Some Or → ⊥
 
 -- what a call answers for a whole condition
 abbrev pub outcome : Result Condition Refusal → Reader → Outcome

@@ -51,6 +51,7 @@ pub enum Step {
 }
 
 // The first `used` places hold its steps; past 159 there is no place. With no step it is always true.
+// An array with a count beside it, since it is copied: an `ArrayVec` is not.
 #[derive(Clone, Copy)]
 pub struct Condition {
     pub steps: [Step; MOST_STEPS],
@@ -64,12 +65,10 @@ pub struct FieldNames<'n> {
     pub base: Table<'n>,
 }
 
-// What the first word of an operand is: a number, a field, a name of no field, or no operand at all.
+// What the first word of an operand is: a number, or a field.
 #[derive(Clone, Copy)]
 pub enum Found {
     Value(i32),
     RowField(u8),
     BaseField(u8),
-    Unknown,
-    NoOperand,
 }

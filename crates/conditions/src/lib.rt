@@ -8,4 +8,4 @@ pub mod reader;
 pub mod reading;
 pub mod steps;
 pub mod theorems;
-pub mod truths;
+pub mod wrong;

@@ -1,27 +1,22 @@
 // What a condition says of a row and a base row.
-ghost use Rattle.std.specs.Prelude.{◌≡◌, ◌+◌, ◌<◌, ◌≤◌, ◌&&◌, ◌||◌, pos, slice_index_or};
+ghost use Rattle.std.specs.Prelude.{◌≡◌, ◌+◌, ◌<◌, ◌≤◌, ◌∷◌, IfSome, IfNone};
 ghost use Rattle.conditions.specs.Postfix.{asked, trees};
-ghost use Rattle.conditions.specs.Meaning.{moved, amount, compares, compared, says, judge, stacked, verdict};
+ghost use Rattle.conditions.specs.Meaning.{moved, amount, compares, compared, says, judge, stacked};
+ghost use Rattle.arrayvec.specs.ArrayVec.{array_vec_len};
 
 use crate::condition::{Comparison, Condition, MOST_STEPS, Operand, Shift, Step};
-use crate::truths::Truths;
+use arrayvec::ArrayVec;
+use measures::values::value_at;
 use words::signs::Sign;
-
-// A value of a row; where there is none, 0.
-pub(crate) fn value_at(row: &[i32], i: usize) -> i32
-    ensures { result ≡ slice_index_or row.now i (pos 0) }
-{
-    if i < row.len() { row[i] } else { 0 }
-}
 
 // A value with what is added to it.
 fn moved_by(value: i32, by: Shift) -> i64
     ensures { result ≡ moved value by }
 {
     match by {
-        Shift::Bare => value as i64,
-        Shift::Plus(n) => value as i64 + n as i64,
-        Shift::Minus(n) => value as i64 - n as i64,
+        Shift::Bare => i64::from(value),
+        Shift::Plus(n) => i64::from(value) + i64::from(n),
+        Shift::Minus(n) => i64::from(value) - i64::from(n),
     }
 }
 
@@ -30,9 +25,9 @@ fn amount_of(operand: Operand, row: &[i32], base: &[i32]) -> i64
     ensures { result ≡ amount row.now base.now operand }
 {
     match operand {
-        Operand::Number(z) => z as i64,
-        Operand::Row(field, by) => moved_by(value_at(row, field as usize), by),
-        Operand::Base(field, by) => moved_by(value_at(base, field as usize), by),
+        Operand::Number(z) => i64::from(z),
+        Operand::Row(field, by) => moved_by(value_at(row, usize::from(field)), by),
+        Operand::Base(field, by) => moved_by(value_at(base, usize::from(field)), by),
     }
 }
 
@@ -61,62 +56,41 @@ fn is_true(comparison: Comparison, row: &[i32], base: &[i32]) -> bool
     )
 }
 
-// `and` of two truths.
-fn both_of(a: bool, b: bool) -> bool
-    ensures { result ≡ (a && b) }
+// The two topmost truths, taken off; where there are not two, nothing is.
+fn take_two(truths: &mut ArrayVec<bool, MOST_STEPS>) -> Option<(bool, bool)>
+    ensures two { IfSome result (λ p. stacked truths.old ≡ p.1 ∷ p.0 ∷ stacked truths.new) }
+    ensures few { IfNone result ((truths.new ≡ truths.old) × (array_vec_len truths.old < 2)) }
 {
-    a && b
-}
-
-// `or` of two truths.
-fn one_of(a: bool, b: bool) -> bool
-    ensures { result ≡ (a || b) }
-{
-    a || b
-}
-
-impl Truths {
-    // The truth on top; with none, true.
-    fn last(&self) -> bool
-        requires { self.now.high ≤ 159 }
-        ensures { result ≡ verdict (stacked self.now) }
-    {
-        if self.high == 0 {
-            true
-        } else {
-            self.held[self.high - 1]
-        }
+    if truths.len() < 2 {
+        return None;
     }
+    let b = truths.pop()?;
+    let a = truths.pop()?;
+    Some((a, b))
+}
 
-    // One step of a condition.
-    fn judge(&mut self, step: Step, row: &[i32], base: &[i32])
-        requires { self.old.high < 159 }
-        ensures stacked { stacked self.new ≡ judge row.now base.now step (stacked self.old) }
-        ensures high { self.new.high ≤ self.old.high + 1 }
-    {
-        let n = self.high;
-        match step {
-            Step::Compare(k) => {
-                self.held[n] = is_true(k, row, base);
-                self.high = n + 1;
+// One step of a condition, on the truths of the terms that are not yet joined, the last on top.
+fn judge(truths: &mut ArrayVec<bool, MOST_STEPS>, step: Step, row: &[i32], base: &[i32])
+    requires { array_vec_len truths.old < 159 }
+    ensures stacked { stacked truths.new ≡ judge row.now base.now step (stacked truths.old) }
+    ensures high { array_vec_len truths.new ≤ array_vec_len truths.old + 1 }
+{
+    match step {
+        Step::Compare(k) => truths.push(is_true(k, row, base)),
+        Step::Not => {
+            if let Some(top) = truths.pop() {
+                truths.push(!top);
             }
-            Step::Not => {
-                if n > 0 {
-                    self.held[n - 1] = !self.held[n - 1];
-                }
+        }
+        Step::Bracket => {}
+        Step::And => {
+            if let Some((a, b)) = take_two(truths) {
+                truths.push(a & b);
             }
-            Step::Bracket => {}
-            Step::And => {
-                if n > 1 {
-                    self.held[n - 2] = both_of(self.held[n - 2], self.held[n - 1]);
-                    self.high = n - 1;
-                }
-            }
-            Step::Or => {
-                if n > 1 {
-                    self.held[n - 2] = one_of(self.held[n - 2], self.held[n - 1]);
-                    self.high = n - 1;
-                }
+        }
+        Step::Or => {
+            if let Some((a, b)) = take_two(truths) {
+                truths.push(a | b);
             }
         }
     }
@@ -127,14 +101,10 @@ impl Condition {
     pub fn holds(&self, row: &[i32], base: &[i32]) -> bool
         ensures { result ≡ says (asked (trees self.now)) row.now base.now }
     {
-        let mut truths = Truths {
-            held: [true; MOST_STEPS],
-            high: 0,
-        };
-        let used = self.used.min(MOST_STEPS);
-        for i in 0..used {
-            truths.judge(self.steps[i], row, base);
+        let mut truths = ArrayVec::new();
+        for step in &self.steps[..self.used.min(MOST_STEPS)] {
+            judge(&mut truths, *step, row, base);
         }
-        truths.last()
+        truths.pop().unwrap_or(true)
     }
 }

@@ -17,13 +17,12 @@ pub struct Read {
     pub fields: [bool; MOST_FIELDS],
 }
 
-// How `and`, `or` and `not` are told from other keywords.
+// The keywords that join terms.
 #[derive(Clone, Copy)]
 pub enum Joint {
     And,
     Or,
     Not,
-    NoJoint,
 }
 
 // How a term begins: with `not`, with a bracket, or with a comparison.
@@ -34,12 +33,11 @@ pub enum Opening {
     Plain,
 }
 
-// What follows a term: `and`, `or`, a closing bracket, the line's end, or nothing that may stand there.
-#[derive(Clone, Copy)]
+// What may follow a term: `and`, `or`, a closing bracket, the line's end.
+#[derive(Clone, Copy, PartialEq, Eq)]
 pub enum Joining {
     And,
     Or,
     Close,
     End,
-    Nothing,
 }

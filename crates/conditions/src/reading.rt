@@ -1,35 +1,29 @@
 // Reads a condition, one word after another.
-ghost use Rattle.std.specs.Prelude.{◌≡◌, ◌+◌, ◌<◌, true, [], ◌∷◌, is_some, IfOk, Some, OnOk, nat_lt};
+ghost use Rattle.std.specs.Prelude.{◌≡◌, ◌+◌, ◌<◌, true, false, [], ◌∷◌, Some, IfOk, OnOk, nat_lt};
 ghost use Rattle.words.specs.Lexemes.{seen};
-ghost use Rattle.words.specs.Cutting.{next, later, to_come, here};
-ghost use Rattle.conditions.specs.Machine.{Names, State, Move, go, noted, found, joint, opening, joining, shift_of, refusal, form, unknown, limit};
+ghost use Rattle.words.specs.Cutting.{next, later, to_come};
+ghost use Rattle.conditions.specs.Machine.{Names, State, Move, go, found, joint, opening, joining, shift_of};
 ghost use Rattle.conditions.specs.Postfix.{trees, tree};
-ghost use Rattle.conditions.specs.Promises.{seen_by, On, rest, onto, looks, Known, ReadsShift, ReadsOperand, ReadsComparison, ReadsTerm, ReadsAnds, ReadsOrs, NoAnd, NoOr, Counts, Room, Grown, outcome, reading, ResultOf, KeyFields, KeepsLimits};
+ghost use Rattle.conditions.specs.Promises.{seen_by, On, rest, onto, looks, Known, Finds, Notes, ReadsShift, ReadsOperand, ReadsComparison, ReadsTerm, ReadsAnds, ReadsOrs, NoAnd, NoOr, Counts, Room, Grown, outcome, reading, ResultOf, KeyFields, KeepsLimits};
 
 use crate::condition::{
     Comparison, Condition, DEEPEST, FieldNames, Found, MOST_COMPARISONS, MOST_FIELDS, MOST_READ,
     Operand, Shift, Step,
 };
 use crate::reader::{Joining, Joint, Opening, Read, Reader};
+use crate::wrong::Wrong;
 use text::refusal::Refusal;
 use words::cursor::Words;
 use words::tokens::{Keyword, Token};
 
-fn joint_of(keyword: Keyword) -> Joint
+fn joint_of(keyword: Keyword) -> Option<Joint>
     ensures { result ≡ joint keyword }
 {
     match keyword {
-        Keyword::And => Joint::And,
-        Keyword::Or => Joint::Or,
-        Keyword::Not => Joint::Not,
-        Keyword::Rows => Joint::NoJoint,
-        Keyword::Base => Joint::NoJoint,
-        Keyword::Where => Joint::NoJoint,
-        Keyword::Count => Joint::NoJoint,
-        Keyword::Sum => Joint::NoJoint,
-        Keyword::Least => Joint::NoJoint,
-        Keyword::Greatest => Joint::NoJoint,
-        Keyword::Mean => Joint::NoJoint,
+        Keyword::And => Some(Joint::And),
+        Keyword::Or => Some(Joint::Or),
+        Keyword::Not => Some(Joint::Not),
+        _ => None,
     }
 }
 
@@ -38,41 +32,26 @@ fn opening_of(token: Token) -> Opening
 {
     match token {
         Token::Reserved { keyword, .. } => match joint_of(keyword) {
-            Joint::Not => Opening::Denial,
-            Joint::And => Opening::Plain,
-            Joint::Or => Opening::Plain,
-            Joint::NoJoint => Opening::Plain,
+            Some(Joint::Not) => Opening::Denial,
+            _ => Opening::Plain,
         },
-        Token::Bracket { opens, .. } => {
-            if opens {
-                Opening::Bracket
-            } else {
-                Opening::Plain
-            }
-        }
+        Token::Bracket { opens: true, .. } => Opening::Bracket,
         _ => Opening::Plain,
     }
 }
 
-fn joining_of(token: Token) -> Joining
+fn joining_of(token: Token) -> Option<Joining>
     ensures { result ≡ joining (seen token.entry) }
 {
     match token {
-        Token::Reserved { keyword, .. } => match joint_of(keyword) {
-            Joint::And => Joining::And,
-            Joint::Or => Joining::Or,
-            Joint::Not => Joining::Nothing,
-            Joint::NoJoint => Joining::Nothing,
+        Token::Reserved { keyword, .. } => match joint_of(keyword)? {
+            Joint::And => Some(Joining::And),
+            Joint::Or => Some(Joining::Or),
+            Joint::Not => None,
         },
-        Token::Bracket { opens, .. } => {
-            if opens {
-                Joining::Nothing
-            } else {
-                Joining::Close
-            }
-        }
-        Token::LineEnd { .. } => Joining::End,
-        _ => Joining::Nothing,
+        Token::Bracket { opens: false, .. } => Some(Joining::Close),
+        Token::LineEnd { .. } => Some(Joining::End),
+        _ => None,
     }
 }
 
@@ -80,12 +59,11 @@ fn joining_of(token: Token) -> Joining
 fn shift_by(plus: bool, value: i32) -> Option<Shift>
     ensures { result ≡ shift_of plus value }
 {
-    if value < 0 {
-        None
-    } else if plus {
-        Some(Shift::Plus(value as u32))
+    let by = u32::try_from(value).ok()?;
+    if plus {
+        Some(Shift::Plus(by))
     } else {
-        Some(Shift::Minus(value as u32))
+        Some(Shift::Minus(by))
     }
 }
 
@@ -97,6 +75,7 @@ fn levels() -> u8
 }
 
 // Whether one comparison more is within the limit.
+// This and the next are not one function of a limit: so the contract of each names what its constant has to be.
 fn may_compare(comparisons: usize) -> bool
     ensures { result ≡ nat_lt comparisons 16 }
 {
@@ -112,28 +91,28 @@ fn may_read(different: usize) -> bool
 
 impl FieldNames<'_> {
     // The field that a name is: a row field first.
-    fn field(&self, word: &[u8]) -> Found
+    fn field(&self, word: &[u8]) -> Result<Found, Wrong>
         ensures value { result ≡ looks self.now word.now }
-        ensures known { Known result }
+        ensures known { IfOk result Known }
     {
         match self.rows.find(word) {
-            Some(i) => Found::RowField(i),
+            Some(i) => Ok(Found::RowField(i)),
             None => match self.base.find(word) {
-                Some(i) => Found::BaseField(i),
-                None => Found::Unknown,
+                Some(i) => Ok(Found::BaseField(i)),
+                None => Err(Wrong::Unknown),
             },
         }
     }
 
     // What a word is as an operand.
-    fn found(&self, token: Token) -> Found
+    fn found(&self, token: Token) -> Result<Found, Wrong>
         ensures value { result ≡ found (looks self.now) (seen token.entry) }
-        ensures known { Known result }
+        ensures known { IfOk result Known }
     {
         match token {
             Token::Name { text, .. } => self.field(text),
-            Token::Number { value, .. } => Found::Value(value),
-            _ => Found::NoOperand,
+            Token::Number { value, .. } => Ok(Found::Value(value)),
+            _ => Err(Wrong::Form),
         }
     }
 }
@@ -148,49 +127,36 @@ impl<'a> Reader<'a> {
         self.words.advance();
     }
 
-    // The form is broken at the next word.
-    fn form(&self) -> Refusal
-        ensures { result ≡ refusal form (here self.now.words) }
+    // What the next word is as an operand.
+    fn found(&self, names: &FieldNames) -> Result<Found, Refusal>
+        ensures value { Finds (looks names.now) self.now result }
+        ensures known { IfOk result Known }
     {
-        let (line, word) = self.words.place();
-        Refusal::PlanForm { line, word }
-    }
-
-    // The next word names no field.
-    fn unknown(&self) -> Refusal
-        ensures { result ≡ refusal unknown (here self.now.words) }
-    {
-        let (line, word) = self.words.place();
-        Refusal::UnknownField { line, word }
-    }
-
-    // The next word is one too many.
-    fn limit(&self) -> Refusal
-        ensures { result ≡ refusal limit (here self.now.words) }
-    {
-        let (line, word) = self.words.place();
-        Refusal::PlanLimit { line, word }
+        // A `match`: with `map_err` it was not proved which refusal the closure gives.
+        match names.found(self.words.peek()) {
+            Ok(found) => Ok(found),
+            Err(wrong) => Err(wrong.at(&self.words)),
+        }
     }
 
     // One row field more, if there are not too many.
-    fn note(&mut self, field: u8) -> bool
+    fn note(&mut self, field: u8) -> Result<(), Refusal>
         requires { field < 8 }
         ensures on { On self.old self.new }
         ensures words { self.new.words ≡ self.old.words }
-        ensures value { result ≡ is_some (noted (seen_by self.old) field) }
-        ensures seen { result ≡ true → noted (seen_by self.old) field ≡ Some (seen_by self.new) }
+        ensures value { Notes self.old self.new field result }
         ensures stays { (e : Names) (m : Move) → onto e self.old m ≡ onto e self.new m }
     {
-        let i = field as usize;
+        let i = usize::from(field);
         if self.fields[i] {
-            return true;
+            return Ok(());
         }
         if !may_read(self.different) {
-            return false;
+            return Err(Wrong::Limit.at(&self.words));
         }
         self.different += 1;
         self.fields[i] = true;
-        true
+        Ok(())
     }
 
     // What is added to a field.
@@ -203,32 +169,27 @@ impl<'a> Reader<'a> {
         };
         self.advance();
         let Token::Number { value, .. } = self.words.peek() else {
-            return Err(self.form());
+            return Err(Wrong::Form.at(&self.words));
         };
-        match shift_by(plus, value) {
-            None => Err(self.form()),
-            Some(by) => {
-                self.advance();
-                Ok(by)
-            }
-        }
+        let Some(by) = shift_by(plus, value) else {
+            return Err(Wrong::Form.at(&self.words));
+        };
+        self.advance();
+        Ok(by)
     }
 
     fn operand(&mut self, names: &FieldNames) -> Result<Operand, Refusal>
         ensures on { On self.old self.new }
         ensures value { ReadsOperand (looks names.now) self.old self.new result }
     {
-        match names.found(self.words.peek()) {
-            Found::NoOperand => Err(self.form()),
-            Found::Unknown => Err(self.unknown()),
+        let first = self.found(names)?;
+        match first {
             Found::Value(z) => {
                 self.advance();
                 Ok(Operand::Number(z))
             }
             Found::RowField(field) => {
-                if !self.note(field) {
-                    return Err(self.limit());
-                }
+                self.note(field)?;
                 self.advance();
                 let by = self.shift()?;
                 Ok(Operand::Row(field, by))
@@ -247,20 +208,14 @@ impl<'a> Reader<'a> {
         ensures value { ReadsComparison (looks names.now) self.old self.new result }
         ensures counts { OnOk result (Counts self.old self.new) }
     {
-        let found = names.found(self.words.peek());
-        if let Found::NoOperand = found {
-            return Err(self.form());
-        }
-        if let Found::Unknown = found {
-            return Err(self.unknown());
-        }
+        self.found(names)?;
         if !may_compare(self.comparisons) {
-            return Err(self.limit());
+            return Err(Wrong::Limit.at(&self.words));
         }
         self.comparisons += 1;
         let left = self.operand(names)?;
         let Token::Sign { sign, .. } = self.words.peek() else {
-            return Err(self.form());
+            return Err(Wrong::Form.at(&self.words));
         };
         self.advance();
         let right = self.operand(names)?;
@@ -273,13 +228,22 @@ impl<'a> Reader<'a> {
         opening_of(self.words.peek())
     }
 
-    fn joining(&self) -> Joining
+    fn joining(&self) -> Option<Joining>
         ensures { result ≡ joining (next (to_come self.now.words)) }
     {
         joining_of(self.words.peek())
     }
 
+    // Whether the next word follows a term so.
+    fn joins(&self, wanted: Joining) -> bool
+        ensures yes { result ≡ true → Some wanted ≡ joining (next (to_come self.now.words)) }
+        ensures no { result ≡ false → joining (next (to_come self.now.words)) ≡ Some wanted → ⊥ }
+    {
+        self.joining() == Some(wanted)
+    }
+
     // A comparison, a bracket, or a `not` before one of these, with so many levels left.
+    // Names, condition and depth stay arguments: the names are only lent, and the depth differs at each level.
     #[cycle(conjunction_disjunction_term)]
     fn term(&mut self, names: &FieldNames, out: &mut Condition, depth: u8) -> Result<(), Refusal>
         requires { Room self.old out.old depth }
@@ -290,7 +254,7 @@ impl<'a> Reader<'a> {
         match self.opening() {
             Opening::Denial => {
                 if depth == 0 {
-                    return Err(self.limit());
+                    return Err(Wrong::Limit.at(&self.words));
                 }
                 self.advance();
                 self.term(names, out, depth - 1)?;
@@ -299,17 +263,16 @@ impl<'a> Reader<'a> {
             }
             Opening::Bracket => {
                 if depth == 0 {
-                    return Err(self.limit());
+                    return Err(Wrong::Limit.at(&self.words));
                 }
                 self.advance();
                 self.disjunction(names, out, depth - 1)?;
-                if let Joining::Close = self.joining() {
-                    self.advance();
-                    out.push(Step::Bracket);
-                    Ok(())
-                } else {
-                    Err(self.form())
+                if !self.joins(Joining::Close) {
+                    return Err(Wrong::Form.at(&self.words));
                 }
+                self.advance();
+                out.push(Step::Bracket);
+                Ok(())
             }
             Opening::Plain => {
                 let found = self.comparison(names)?;
@@ -320,6 +283,7 @@ impl<'a> Reader<'a> {
     }
 
     // Terms joined by `and`.
+    // Not one function with the next: terms joined by `and` may stand after an `or`, so that its promise is another.
     #[cycle(conjunction_disjunction_term)]
     fn conjunction(
         &mut self,
@@ -334,7 +298,7 @@ impl<'a> Reader<'a> {
         ensures ends { OnOk result (NoAnd self.new) }
     {
         self.term(names, out, depth)?;
-        while let Joining::And = self.joining() {
+        while self.joins(Joining::And) {
             self.advance();
             self.term(names, out, depth)?;
             out.push(Step::And);
@@ -357,7 +321,7 @@ impl<'a> Reader<'a> {
         ensures ends { OnOk result (NoAnd self.new × NoOr self.new) }
     {
         self.conjunction(names, out, depth)?;
-        while let Joining::Or = self.joining() {
+        while self.joins(Joining::Or) {
             self.advance();
             self.conjunction(names, out, depth)?;
             out.push(Step::Or);
@@ -372,12 +336,11 @@ impl<'a> Reader<'a> {
     {
         let mut out = Condition::always();
         self.disjunction(names, &mut out, levels())?;
-        if let Joining::End = self.joining() {
-            self.words.advance();
-            Ok(out)
-        } else {
-            Err(self.form())
+        if !self.joins(Joining::End) {
+            return Err(Wrong::Form.at(&self.words));
         }
+        self.words.advance();
+        Ok(out)
     }
 }
 

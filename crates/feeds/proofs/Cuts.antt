@@ -1,5 +1,5 @@
 -- Records cut to a width. Assumes nothing.
-use Rattle.std.proofs.Common.{◌≡◌, ℕ, zero, suc, ◌≤◌, List, [], ◌∷◌, map, length, take, ℤ, refl, ap, arith}
+use Rattle.std.proofs.Common.{◌≡◌, ℕ, zero, suc, ◌≤◌, List, [], ◌∷◌, ◌++◌, map, length, take, ℤ, refl, ap, arith}
 use Rattle.std.specs.List.{AllByRecursion}
 use Rattle.feeds.specs.Steps.{cut}
 
@@ -14,8 +14,8 @@ pub all_cut : (w : ℕ) (rs : List (List ℤ)) → AllByRecursion (λ r. length 
 all_cut w [] = tt
 all_cut w (r ∷ rs) = (length_cut w r, all_cut w rs)
 
--- of a record that is wide enough, its beginning is left
-pub cut_take : (w : ℕ) (xs : List ℤ) → w ≤ length xs → cut w xs ≡ take w xs
-cut_take zero xs h = refl
-cut_take (suc w) [] h = absurd (omega (arith, h))
-cut_take (suc w) (x ∷ xs) h = ap (λ l. x ∷ l) (cut_take w xs (omega (arith, h)))
+-- of a record that begins with enough values, these are left
+pub cut_front : (w : ℕ) (xs ys : List ℤ) → w ≤ length xs → cut w (xs ++ ys) ≡ take w xs
+cut_front zero xs ys h = refl
+cut_front (suc w) [] ys h = absurd (omega (arith, h))
+cut_front (suc w) (x ∷ xs) ys h = ap (λ l. x ∷ l) (cut_front w xs ys (omega (arith, h)))

@@ -1,23 +1,26 @@
 -- The rows of a sheet, their widths and its last line's number. Assumes nothing.
-use Rattle.std.proofs.Common.{◌≡◌, ℕ, suc, ◌+◌, ◌-◌, ◌^◌, ◌≤◌, min, Bool, true, false, cond, ◌&&◌, eqb, leb, List, [], ◌∷◌, map, length, ℤ, Some, None, Option, sym, refl, ap, ◌∙◌, arith}
+use Rattle.std.proofs.Common.{◌≡◌, ℕ, suc, ◌+◌, ◌-◌, ◌^◌, ◌≤◌, min, Bool, true, false, cond, ◌&&◌, eqb, leb, List, [], ◌∷◌, map, length, ℤ, Err, Some, None, Option, sym, refl, ap, ◌∙◌, arith}
 use Rattle.std.specs.List.{AllByRecursion}
 use Rattle.std.proofs.lemmas.List.{length-map}
 use Rattle.std.proofs.lemmas.Bool.{cond-false, and_left, eqb-true}
 use Rattle.feeds.specs.SheetFeeds.{held}
 use Rattle.feeds.specs.Sheets.{onto, split, Line, complete, broken, lines_from, lines_of, lines, numbers, of_width, row_of, sheet, good_rows, end_from}
 use Rattle.feeds.specs.declared.fault.Fault.TheVariants.{BadLine}
-use Rattle.feeds.specs.declared.step.End.TheVariants.{Fault}
 
 -- line numbers that are held alike lead to ends that are held alike
 pub held_same : (m n : ℕ) (rs : List (Option (List ℤ))) → min m (2 ^ 64 - 1) ≡ min n (2 ^ 64 - 1) → held (end_from m rs) ≡ held (end_from n rs)
 held_same m n [] e = refl
-held_same m n (None ∷ rs) e = ap (λ k. Fault (BadLine k)) e
+held_same m n (None ∷ rs) e = ap (λ k. Err (BadLine k)) e
 held_same m n (Some r ∷ rs) e = held_same (m + 1) (n + 1) rs (omega (arith, e))
+
+-- a good line is followed by the lines after it, and the number is held one greater
+pub held_next : (m n : ℕ) (r : List ℤ) (rs ls : List (Option (List ℤ))) → m ≡ min (n + 1) (2 ^ 64 - 1) → ls ≡ Some r ∷ rs → held (end_from m rs) ≡ held (end_from n ls)
+held_next m n r rs ls e f = held_same m (n + 1) rs (omega (arith, e)) ∙ sym (ap (λ l. held (end_from n l)) f)
 
 -- where there are no more lines than can be counted, the number is held as it is
 pub held_all : (n : ℕ) (rs : List (Option (List ℤ))) → n + length rs ≤ 2 ^ 64 → held (end_from n rs) ≡ end_from n rs
 held_all n [] h = refl
-held_all n (None ∷ rs) h = let k : min n (2 ^ 64 - 1) ≡ n = omega (arith, h) in ap (λ m. Fault (BadLine m)) k
+held_all n (None ∷ rs) h = let k : min n (2 ^ 64 - 1) ≡ n = omega (arith, h) in ap (λ m. Err (BadLine m)) k
 held_all n (Some r ∷ rs) h = held_all (n + 1) rs (omega (arith, h))
 
 -- there are no more parts than bytes, and one

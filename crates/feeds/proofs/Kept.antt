@@ -1,17 +1,9 @@
--- The rows of a section among all rows. Assumes nothing.
-use Rattle.std.proofs.Common.{◌≡◌, ℕ, zero, suc, ◌<◌, ◌≤◌, true, false, ltb, List, [], ◌∷◌, length, get_or, ℤ, pos, sym, refl, ap, ◌∙◌, arith}
+-- The value of a field in a row cut to a width. Assumes nothing.
+use Rattle.std.proofs.Common.{◌≡◌, ℕ, zero, suc, ◌<◌, ◌≤◌, false, ltb, List, [], ◌∷◌, length, get_or, ℤ, pos, sym, refl, ap, ◌∙◌, arith}
 use Rattle.std.proofs.lemmas.Bool.{lt-ltb, le-ltb, cond-true, cond-false}
-use Rattle.feeds.specs.Sections.{hits, section_of, same_number}
+use Rattle.feeds.specs.Sections.{hits, same_number}
 use Rattle.feeds.specs.Steps.{cut}
 use Rattle.feeds.proofs.Cuts.{length_cut}
-
--- a row of the section is kept
-pub kept_hit : (j : ℕ) (v : ℤ) (r : List ℤ) (rs : List (List ℤ)) → hits j v r ≡ true → section_of j v (r ∷ rs) ≡ r ∷ section_of j v rs
-kept_hit j v r rs e = rw e
-
--- a row of another section is not
-pub kept_miss : (j : ℕ) (v : ℤ) (r : List ℤ) (rs : List (List ℤ)) → hits j v r ≡ false → section_of j v (r ∷ rs) ≡ section_of j v rs
-kept_miss j v r rs e = rw e
 
 -- a value within the width stays where it is
 pub getD_cut : (w : ℕ) (xs : List ℤ) (j : ℕ) → j < w → get_or (cut w xs) j (pos 0) ≡ get_or xs j (pos 0)

@@ -1,5 +1,4 @@
 pub mod Cuts
-pub mod Comings
 pub mod Kept
 pub mod Parts
 pub mod Fields

@@ -8,7 +8,7 @@ use Rattle.text.specs.Numbers.{front, number, written}
 use Rattle.text.proofs.Words.{back, again, longer_number, whole_front}
 use Rattle.feeds.specs.Sheets.{onto, split, Line, complete, broken, lines_from, lines_of, lines, before, numbers, of_width, row_of, sheet, good_rows, end_from}
 use Rattle.feeds.specs.WrittenSheets.{written_row, written_rows, Rows, ExactlyWritten}
-use Rattle.feeds.specs.declared.step.End.TheVariants.{Clean}
+use Rattle.feeds.specs.Steps.{clean}
 use Rattle.feeds.proofs.Fields.{got, in_front, fields, follows, good_field, numbers_some, drop_past, space_front, feed_front, sheet_got}
 use Rattle.feeds.proofs.Parts.{split_some}
 
@@ -88,12 +88,12 @@ of_width_same w (Some zs) r e = go (eqb (length zs) w && leb w 8) e
     go false e = let y : ◌≡◌ {A = ℕ} 0 1 = cc in absurd (omega arith)
 
 -- lines without a bad one are how their rows are written
-good_lines : (w n : ℕ) (ls : List Line) → end_from n (map (row_of w) ls) ≡ Clean → written_rows (good_rows (map (row_of w) ls)) ≡ joined_lines ls
+good_lines : (w n : ℕ) (ls : List Line) → end_from n (map (row_of w) ls) ≡ clean → written_rows (good_rows (map (row_of w) ls)) ≡ joined_lines ls
 good_lines w n [] e = refl
 good_lines w n (broken line ∷ ls) e = let y : ◌≡◌ {A = ℕ} 0 1 = cc in absurd (omega arith)
 good_lines w n (complete line ∷ ls) e = go (row_of w (complete line)) refl (good_lines w (n + 1) ls) e
   where
-    go : (o : Option (List ℤ)) → row_of w (complete line) ≡ o → (end_from (n + 1) (map (row_of w) ls) ≡ Clean → written_rows (good_rows (map (row_of w) ls)) ≡ joined_lines ls) → end_from n (o ∷ map (row_of w) ls) ≡ Clean → written_rows (good_rows (o ∷ map (row_of w) ls)) ≡ line ++ 10 ∷ joined_lines ls
+    go : (o : Option (List ℤ)) → row_of w (complete line) ≡ o → (end_from (n + 1) (map (row_of w) ls) ≡ clean → written_rows (good_rows (map (row_of w) ls)) ≡ joined_lines ls) → end_from n (o ∷ map (row_of w) ls) ≡ clean → written_rows (good_rows (o ∷ map (row_of w) ls)) ≡ line ++ 10 ∷ joined_lines ls
     go None f rec e = let y : ◌≡◌ {A = ℕ} 0 1 = cc in absurd (omega arith)
     go (Some r) f rec e =
         let row = words_written (split 32 line) r (of_width_same w (numbers (split 32 line)) r f) ∙ split_joined 32 (10 ∷ []) line in
@@ -139,7 +139,7 @@ all_good [] = refl
 all_good (r ∷ rs) = ap (λ l. r ∷ l) (all_good rs)
 
 -- and the end is clean
-all_clean : (n : ℕ) (rs : List (List ℤ)) → end_from n (map Some rs) ≡ Clean
+all_clean : (n : ℕ) (rs : List (List ℤ)) → end_from n (map Some rs) ≡ clean
 all_clean n [] = refl
 all_clean n (r ∷ rs) = all_clean (n + 1) rs
 

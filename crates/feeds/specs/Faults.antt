@@ -1,10 +1,15 @@
 -- What each fault publishes. Assumes nothing.
-use Rattle.std.specs.Prelude.{ℕ}
+use Rattle.std.specs.Prelude.{ℕ, List, codes}
 use Rattle.text.specs.Refusals.{published}
 use Rattle.feeds.specs.declared.fault.Fault.{Fault}
 use Rattle.feeds.specs.declared.fault.Fault.TheVariants.{BadLine, RefusedRow}
 use Rattle.feeds.specs.declared.fault.Layer.{Layer}
 use Rattle.feeds.specs.declared.fault.Layer.TheVariants.{Sheet, Tally}
+
+-- the name of a layer
+abbrev pub layer_name : Layer → List ℕ
+layer_name Sheet = codes "sheet"
+layer_name Tally = codes "tally"
 
 -- what is told of a fault: its number, the layer in which it lies, and the line or row there
 pub record PublishedFault : Type 0 where

@@ -4,7 +4,7 @@ use Rattle.measures.specs.Values.{is_row_value}
 use Rattle.text.specs.declared.refusal.Refusal.{Refusal}
 use Rattle.text.specs.declared.refusal.Refusal.TheVariants.{FeedRange}
 use Rattle.feeds.specs.declared.section.Section.{Section}
-use Rattle.feeds.specs.declared.step.End.{End}
+use Rattle.feeds.specs.Steps.{End}
 
 -- whether two whole numbers are the same
 abbrev pub same_number : ℤ → ℤ → Bool

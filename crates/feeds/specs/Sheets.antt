@@ -1,10 +1,8 @@
 -- What the text of a sheet means: its lines, their words, and the rows that they write. Assumes nothing.
-use Rattle.std.specs.Prelude.{ℕ, ◌+◌, cond, ◌&&◌, List, [], ◌∷◌, map, length, ℤ, Some, None, Option, ◌==◌, nat_le}
+use Rattle.std.specs.Prelude.{ℕ, ◌+◌, cond, ◌&&◌, List, [], ◌∷◌, map, length, ℤ, Err, Some, None, Option, ◌==◌, nat_le}
 use Rattle.text.specs.Numbers.{number}
-use Rattle.feeds.specs.Steps.{most_fields}
+use Rattle.feeds.specs.Steps.{End, clean, most_fields}
 use Rattle.feeds.specs.declared.fault.Fault.TheVariants.{BadLine}
-use Rattle.feeds.specs.declared.step.End.{End}
-use Rattle.feeds.specs.declared.step.End.TheVariants.{Clean, Fault}
 
 -- the byte that ends a line
 abbrev pub line_feed : ℕ
@@ -77,8 +75,8 @@ good_rows (Some r ∷ rs) = r ∷ good_rows rs
 
 -- the end of lines of which the first is line n: at the first bad one, or clean
 abbrev pub end_from : ℕ → List (Option (List ℤ)) → End
-end_from n [] = Clean
-end_from n (None ∷ rs) = Fault (BadLine n)
+end_from n [] = clean
+end_from n (None ∷ rs) = Err (BadLine n)
 end_from n (Some r ∷ rs) = end_from (n + 1) rs
 
 -- the rows of a sheet of width w

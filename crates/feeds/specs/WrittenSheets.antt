@@ -4,7 +4,7 @@ use Rattle.std.specs.List.{AllByRecursion}
 use Rattle.measures.specs.Values.{RowValue}
 use Rattle.text.specs.Numbers.{written}
 use Rattle.feeds.specs.Sheets.{line_feed, space, sheet_rows, sheet_end}
-use Rattle.feeds.specs.declared.step.End.TheVariants.{Clean}
+use Rattle.feeds.specs.Steps.{clean}
 
 -- a row as a line: its numbers, a space between two, and a line feed after the last
 abbrev pub written_row : List ℤ → List ℕ
@@ -23,5 +23,5 @@ Rows w rs = AllByRecursion (λ r. (length r ≡ w) × AllByRecursion RowValue r)
 
 -- a sheet that ends clean is how its rows are written, and rows that are written so come back, with a clean end
 pub record ExactlyWritten (w : ℕ) (text : List ℕ) : Type 0 where
-  pub again : sheet_end w text ≡ Clean → written_rows (sheet_rows w text) ≡ text
-  pub back : (rs : List (List ℤ)) → Rows w rs → written_rows rs ≡ text → (sheet_rows w text ≡ rs) × (sheet_end w text ≡ Clean)
+  pub again : sheet_end w text ≡ clean → written_rows (sheet_rows w text) ≡ text
+  pub back : (rs : List (List ℤ)) → Rows w rs → written_rows rs ≡ text → (sheet_rows w text ≡ rs) × (sheet_end w text ≡ clean)

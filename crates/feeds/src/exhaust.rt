@@ -1,21 +1,14 @@
 // Running through any feed.
-ghost use Rattle.std.specs.Prelude.{◌≡◌, ◌+◌, ◌-◌, ◌^◌, min, [], length};
+ghost use Rattle.std.specs.Prelude.{◌≡◌, ◌-◌, ◌^◌, min, [], length};
 
+use crate::fault::Fault;
 use crate::feed::Feed;
-use crate::step::{End, Step};
 
 // What is left of a feed: how many rows, and its end.
 #[derive(Clone, Copy)]
 pub struct Left {
     pub rows: u64,
-    pub end: End,
-}
-
-// A count with one row more.
-fn one_more(rows: u64) -> u64
-    ensures { result ≡ min (rows + 1) (2 ^ 64 - 1) }
-{
-    rows.saturating_add(1)
+    pub end: Result<(), Fault>,
 }
 
 // Asks a feed until it ends. More rows than `u64` counts are told as the greatest `u64`.
@@ -28,8 +21,12 @@ pub fn exhaust<F: Feed>(feed: &mut F) -> Left
     let mut rows: u64 = 0;
     loop {
         match feed.next() {
-            Step::Row(_) => rows = one_more(rows),
-            Step::Ended(end) => return Left { rows, end },
+            Ok(Some(_)) => rows = rows.saturating_add(1),
+            Ok(None) => return Left { rows, end: Ok(()) },
+            Err(fault) => return Left {
+                rows,
+                end: Err(fault),
+            },
         }
     }
 }

@@ -1,7 +1,8 @@
 // The faults at which a feed can end, and where they lie.
-ghost use Rattle.std.specs.Prelude.{◌≡◌};
-ghost use Rattle.feeds.specs.Faults.{published_fault};
+ghost use Rattle.std.specs.Prelude.{◌≡◌, Some};
+ghost use Rattle.feeds.specs.Faults.{published_fault, layer_name};
 
+use std::fmt;
 use text::refusal::Refusal;
 
 // The part of the way of a row in which a fault lies.
@@ -13,6 +14,18 @@ pub enum Layer {
     Tally,
 }
 
+// As it is told.
+impl fmt::Display for Layer {
+    ghost output = { λ layer. Some (layer_name layer) };
+
+    fn fmt<W: fmt::Write>(&self, f: &mut fmt::Formatter<W>) -> fmt::Result {
+        match self {
+            Layer::Sheet => write!(f, "sheet"),
+            Layer::Tally => write!(f, "tally"),
+        }
+    }
+}
+
 // What ended a feed.
 #[derive(Clone, Copy, PartialEq, Eq, Debug)]
 pub enum Fault {
@@ -22,6 +35,7 @@ pub enum Fault {
     RefusedRow { refusal: Refusal, row: usize },
 }
 
+// A whole fault has no `Display`: each program words it in its own way.
 impl Fault {
     // The published number of the refusal behind it.
     pub fn number(&self) -> u8

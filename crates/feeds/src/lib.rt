@@ -5,6 +5,6 @@ pub mod exhaust;
 pub mod fault;
 pub mod feed;
 pub mod list;
+pub mod row;
 pub mod section;
 pub mod sheet;
-pub mod step;

@@ -1,11 +1,12 @@
 // The feed of one section of another feed.
-ghost use Rattle.std.specs.Prelude.{◌≡◌, pos, slice_index_or};
+ghost use Rattle.std.specs.Prelude.{◌≡◌};
 ghost use Rattle.feeds.specs.Sections.{MadeOn, SectionOf, section_coming, is_section, hits, same_number};
 ghost use Rattle.feeds.specs.Steps.{cut};
 
+use crate::fault::Fault;
 use crate::feed::Feed;
-use crate::step::{End, MOST_FIELDS, Step};
-use measures::values::is_row_value;
+use crate::row::Row;
+use measures::values::{is_row_value, value_at};
 use text::refusal::Refusal;
 
 // Gives those rows of the feed below that have a value in a field, and ends as that feed does.
@@ -23,13 +24,6 @@ fn is_section(field: usize, value: i32, width: usize) -> bool
     field < width && is_row_value(value)
 }
 
-// The value of a row in a field; 0 past its last.
-fn value_at(row: &[i32; 8], field: usize) -> i32
-    ensures { result ≡ slice_index_or row.now field (pos 0) }
-{
-    if field < MOST_FIELDS { row[field] } else { 0 }
-}
-
 // Whether two values are the same.
 fn is_same(a: i32, b: i32) -> bool
     ensures { result ≡ same_number a b }
@@ -38,20 +32,10 @@ fn is_same(a: i32, b: i32) -> bool
 }
 
 // Whether a row of a width has a value in a field.
-fn has(row: &[i32; 8], width: usize, field: usize, value: i32) -> bool
+fn has(row: &Row, width: usize, field: usize, value: i32) -> bool
     ensures { result ≡ hits field value (cut width row.now) }
 {
-    if field >= width {
-        return false;
-    }
-    is_same(value_at(row, field), value)
-}
-
-// The end of the feed below, passed on whole.
-fn ended_so(below: End) -> Step
-    ensures { result ≡ Step.Ended below }
-{
-    Step::Ended(below)
+    field < width && is_same(value_at(row, field), value)
 }
 
 impl<F: Feed> Section<F> {
@@ -69,11 +53,7 @@ impl<F: Feed> Section<F> {
     pub fn into_below(self) -> F
         ensures { result ≡ self.feed }
     {
-        let Section {
-            feed,
-            field: _,
-            value: _,
-        } = self;
+        let Section { feed, .. } = self;
         feed
     }
 }
@@ -89,18 +69,13 @@ impl<F: Feed> Feed for Section<F> {
         self.feed.width()
     }
 
-    fn next(&mut self) -> Step {
+    fn next(&mut self) -> Result<Option<Row>, Fault> {
         let width = self.feed.width();
-        loop {
-            let step = self.feed.next();
-            match step {
-                Step::Row(row) => {
-                    if has(&row, width, self.field, self.value) {
-                        return Step::Row(row);
-                    }
-                }
-                Step::Ended(end) => return ended_so(end),
+        while let Some(row) = self.feed.next()? {
+            if has(&row, width, self.field, self.value) {
+                return Ok(Some(row));
             }
         }
+        Ok(None)
     }
 }

@@ -2,12 +2,12 @@
 #![tactic(auto)]
 
 use feeds::exhaust::exhaust;
-use feeds::fault::Layer;
+use feeds::fault::Fault;
 use feeds::feed::Feed;
 use feeds::list::ListFeed;
+use feeds::row::Row;
 use feeds::section::Section;
 use feeds::sheet::SheetFeed;
-use feeds::step::{End, Step};
 use std::io;
 use text::numbers::{read_number, read_unsigned, write_number};
 use text::refusal::Refusal;
@@ -68,52 +68,50 @@ static WORDS: [&[u8]; 12] = [
 // Numbers to write.
 static VALUES: [i64; 7] = [0, 7, -10, 999_999_999, -999_999_999, i64::MAX, i64::MIN];
 
-// The name of a layer.
-fn layer_name(layer: Layer) -> &'static str {
-    match layer {
-        Layer::Sheet => "sheet",
-        Layer::Tally => "tally",
-    }
-}
-
 // Prints how a feed ended.
-fn print_end(rt: &HostRuntime, end: End) -> io::Result<()> {
-    match end {
-        End::Clean => println!(rt; "  clean"),
-        End::Fault(fault) => {
-            let number = fault.number();
-            let layer = layer_name(fault.layer());
-            let place = fault.place();
-            println!(rt; "  fault {number} {layer} {place}")
-        }
-    }
+fn print_end(rt: &HostRuntime, end: Result<(), Fault>) -> io::Result<()> {
+    let Err(fault) = end else {
+        return println!(rt; "  clean");
+    };
+    let number = fault.number();
+    let layer = fault.layer();
+    let place = fault.place();
+    println!(rt; "  fault {number} {layer} {place}")
 }
 
 // Prints the first values of a row.
-fn print_row(rt: &HostRuntime, row: &[i32; 8], width: usize) -> io::Result<()> {
+fn print_row(rt: &HostRuntime, row: &Row, width: usize) -> io::Result<()> {
     print!(rt; " ")?;
     for value in row.iter().take(width) {
-        let value = *value;
         print!(rt; " {value}")?;
     }
     println!(rt; "")
+}
+
+// Prints what a feed answered.
+fn print_answer(
+    rt: &HostRuntime,
+    answer: Result<Option<Row>, Fault>,
+    width: usize,
+) -> io::Result<()> {
+    match answer {
+        Ok(Some(row)) => print_row(rt, &row, width),
+        Ok(None) => print_end(rt, Ok(())),
+        Err(fault) => print_end(rt, Err(fault)),
+    }
 }
 
 // Prints all that a feed gives, and its end twice.
 fn print_feed<F: Feed>(rt: &HostRuntime, feed: &mut F) -> io::Result<()> {
     let width = feed.width();
     loop {
-        match feed.next() {
-            Step::Row(row) => print_row(rt, &row, width)?,
-            Step::Ended(end) => {
-                print_end(rt, end)?;
-                return match feed.next() {
-                    Step::Row(row) => print_row(rt, &row, width),
-                    Step::Ended(again) => print_end(rt, again),
-                };
-            }
-        }
+        let answer = feed.next();
+        print_answer(rt, answer, width)?;
+        let Ok(Some(_)) = answer else {
+            break;
+        };
     }
+    print_answer(rt, feed.next(), width)
 }
 
 // Prints how many rows a feed has left, and its end.
@@ -130,26 +128,22 @@ fn print_refusal(rt: &HostRuntime, refusal: Refusal) -> io::Result<()> {
     println!(rt; "  refused {number}")
 }
 
-// A sheet.
-fn run_sheet(rt: &HostRuntime, text: &[u8], width: usize) -> io::Result<()> {
-    match SheetFeed::new(text, width) {
-        Ok(feed) => {
-            let mut feed = feed;
-            print_feed(rt, &mut feed)
-        }
+// A feed, if it was made.
+fn run_made<F: Feed + Drop>(rt: &HostRuntime, made: Result<F, Refusal>) -> io::Result<()> {
+    match made {
+        Ok(mut feed) => print_feed(rt, &mut feed),
         Err(refusal) => print_refusal(rt, refusal),
     }
 }
 
+// A sheet.
+fn run_sheet(rt: &HostRuntime, text: &[u8], width: usize) -> io::Result<()> {
+    run_made(rt, SheetFeed::new(text, width))
+}
+
 // A list.
-fn run_list(rt: &HostRuntime, rows: &[[i32; 8]], width: usize) -> io::Result<()> {
-    match ListFeed::new(rows, width) {
-        Ok(feed) => {
-            let mut feed = feed;
-            print_feed(rt, &mut feed)
-        }
-        Err(refusal) => print_refusal(rt, refusal),
-    }
+fn run_list(rt: &HostRuntime, rows: &[Row], width: usize) -> io::Result<()> {
+    run_made(rt, ListFeed::new(rows, width))
 }
 
 // A section of any feed; a refused making shows that the feed below was not asked.
@@ -160,12 +154,8 @@ fn run_section<F: Feed + Drop>(
     value: i32,
 ) -> io::Result<()> {
     match Section::new(feed, field, value) {
-        Ok(section) => {
-            let mut section = section;
-            print_feed(rt, &mut section)
-        }
-        Err((feed, refusal)) => {
-            let mut feed = feed;
+        Ok(mut section) => print_feed(rt, &mut section),
+        Err((mut feed, refusal)) => {
             print_refusal(rt, refusal)?;
             print_left(rt, &mut feed)
         }
@@ -213,10 +203,7 @@ fn run_long(rt: &HostRuntime) -> io::Result<()> {
     }
     text.extend_from_slice(b"1 x\n")?;
     match SheetFeed::new(text.as_slice(), 2) {
-        Ok(feed) => {
-            let mut feed = feed;
-            print_left(rt, &mut feed)
-        }
+        Ok(mut feed) => print_left(rt, &mut feed),
         Err(refusal) => print_refusal(rt, refusal),
     }
 }

@@ -1,5 +1,5 @@
 -- What putting does to cells in order of arrival. Assumes nothing.
-use Rattle.std.proofs.Common.{◌≡◌, ℕ, ◌+◌, ◌<◌, ◌≤◌, List, [], ◌∷◌, ◌++◌, map, length, get_or, take, drop, set, Some, sym, ap, ◌∙◌, subst, arith, drop-set-lt}
+use Rattle.std.proofs.Common.{◌≡◌, ℕ, ◌+◌, ◌<◌, ◌≤◌, List, [], ◌∷◌, ◌++◌, map, length, get_or, take, drop, set, Some, Ok, sym, ap, ◌∙◌, subst, arith, drop-set-lt}
 use lib.Seq.{take-set-lt}
 use Rattle.std.proofs.lemmas.List.{get_or-take, get_or_default, get_or-map, map-set, set-get_or, take_more_set}
 use Rattle.cells.specs.declared.cell.Cell.{Cell}
@@ -11,7 +11,7 @@ use Rattle.groups.proofs.Walks.{length_cells, length_live}
 use Rattle.cells.proofs.InOrder.{in_order_push, apart_push, in_order_set, apart_set}
 
 module _ {V : Type 0} (f : V → V → V) (x : Cell V) (xs ys : List (Place V)) (used : ℕ) (within : used ≤ length xs) (a : Apart (live used xs)) where
-  pub grown_done : (i : ℕ) → Found x.id (live used xs) (Some i) → cells_of ys ≡ set (cells_of xs) i (grown f x (get_or (cells_of xs) i x)) → Chained ys used → Putting f x xs used ys Grown
+  pub grown_done : (i : ℕ) → Found x.id (live used xs) (Some i) → cells_of ys ≡ set (cells_of xs) i (grown f x (get_or (cells_of xs) i x)) → Chained ys used → Putting f x xs used ys (Ok Grown)
   grown_done i found e ch =
       let c = get_or (cells_of xs) i x in
       let lc = length_cells xs in
@@ -30,7 +30,7 @@ module _ {V : Type 0} (f : V → V → V) (x : Cell V) (xs ys : List (Place V)) 
         ap (map (λ c. c.id)) now ∙ map-set (λ c. c.id) (live used xs) i (grown f x c) ∙ ap (set (map (λ c. c.id) (live used xs)) i) (ap (λ c. c.id) (sym (is x)) ∙ sym (get_or-map (λ c. c.id) (live used xs) i x c.id found.0)) ∙ set-get_or (map (λ c. c.id) (live used xs)) i c.id,
       )
 
-  pub begun_done : Absent x.id (live used xs) → used < length xs → cells_of ys ≡ set (cells_of xs) used x → Chained ys (used + 1) → Putting f x xs used ys Begun
+  pub begun_done : Absent x.id (live used xs) → used < length xs → cells_of ys ≡ set (cells_of xs) used x → Chained ys (used + 1) → Putting f x xs used ys (Ok Begun)
   begun_done out lt e ch =
       let now : live (used + 1) ys ≡ live used xs ++ x ∷ [] = ap (take (used + 1)) e ∙ take_more_set (cells_of xs) used x (omega (arith, length_cells xs)) in (
         record {

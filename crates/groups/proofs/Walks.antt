@@ -1,5 +1,5 @@
 -- Walking a chain. Assumes nothing.
-use Rattle.std.proofs.Common.{◌≡◌, ℕ, zero, suc, ◌+◌, ◌-◌, ◌<◌, ◌≤◌, ◌⊎◌, List, [], ◌∷◌, ◌++◌, map, length, get_or, take, drop, sym, refl, ap, ◌∙◌, inl, inr, append-nil, arith}
+use Rattle.std.proofs.Common.{◌≡◌, ℕ, zero, suc, ◌+◌, ◌-◌, ◌<◌, ◌≤◌, ◌⊎◌, List, [], ◌∷◌, ◌++◌, map, length, get_or, take, drop, sym, refl, ap, ◌∙◌, subst, inl, inr, append-nil, arith}
 use Rattle.std.proofs.lemmas.List.{get_or-map, length-map, get_or-take, length-take-le, take_all, drop_all}
 use Rattle.std.proofs.lemmas.Bool.{cases_lt}
 use Rattle.cells.specs.declared.id.GroupId.{GroupId}
@@ -17,6 +17,15 @@ module _ {V : Type 0} where
 
   pub live_at : (xs : List (Place V)) (used k : ℕ) (d : Cell V) (s : Place V) → k < used → used ≤ length xs → get_or (live used xs) k d ≡ (get_or xs k s).cell
   live_at xs used k d s h w = get_or-take used (cells_of xs) k d h ∙ get_or-map (λ s. s.cell) xs k s d (omega arith)
+
+  -- the links of a chained list
+  pub head_link : (xs : List (Place V)) (used b : ℕ) (s : Place V) → Chained xs used → b < length xs → Link (buckets (length xs) (cells_of xs)) used b (get_or xs b s).head
+  head_link xs used b s c lt =
+      subst (Link (buckets (length xs) (cells_of xs)) used b) (get_or-map (λ s. s.head) xs b s 0 lt) (c.first b (omega (arith, length-map xs (λ s. s.head))))
+
+  pub next_link : (xs : List (Place V)) (used i : ℕ) (s : Place V) → Chained xs used → i < used → Link (buckets (length xs) (cells_of xs)) i (get_or (buckets (length xs) (cells_of xs)) i 0) (get_or xs i s).next
+  next_link xs used i s c lt =
+      subst (Link (buckets (length xs) (cells_of xs)) i (get_or (buckets (length xs) (cells_of xs)) i 0)) (get_or-map (λ s. s.next) xs i s 0 (omega (arith, c.within))) (c.later i lt)
 
 -- the walk stands at `at`: what is past is another's, what is here is of the bucket
 abbrev pub Walk : {V : Type 0} → List (Cell V) → ℕ → ℕ → GroupId → ℕ → Type 0

@@ -1,6 +1,6 @@
 -- Cells in order of arrival, chained by bucket inside their places. Assumes nothing.
 -- A link is 0, for none, or one more than the index of a cell; it goes to an older cell.
-use Rattle.std.specs.Prelude.{◌≡◌, ℕ, ◌+◌, ◌-◌, ◌%◌, ◌<◌, ◌≤◌, true, List, [], ◌∷◌, ◌++◌, map, length, take, drop, Some, None, Option, ◌≢◌, slice_index, slice_index_or}
+use Rattle.std.specs.Prelude.{◌≡◌, ℕ, ◌+◌, ◌-◌, ◌%◌, ◌<◌, ◌≤◌, true, List, [], ◌∷◌, ◌++◌, map, length, take, drop, Some, None, Option, Ok, Err, Result, ◌≢◌, slice_index, slice_index_or}
 use Rattle.cells.specs.declared.id.GroupId.{GroupId}
 use Rattle.cells.specs.declared.cell.Cell.{Cell}
 use Rattle.std.specs.Ordering.{is_lt}
@@ -8,7 +8,8 @@ use Rattle.cells.specs.Order.{order}
 use Rattle.cells.specs.Groups.{put, in_order, Apart, Absent}
 use Rattle.cells.specs.declared.place.Place.{Place}
 use Rattle.groups.specs.declared.added.Added.{Added}
-use Rattle.groups.specs.declared.added.Added.TheVariants.{Grown, Begun, NoRoom}
+use Rattle.groups.specs.declared.added.Added.TheVariants.{Grown, Begun}
+use Rattle.groups.specs.declared.added.NoRoom.{NoRoom}
 use Rattle.cells.specs.Hash.{hashed}
 
 -- k links to the newest of bucket b among the first `top` cells, whose buckets are bs
@@ -79,10 +80,10 @@ pub record Done {V : Type 0} (join : V → V → V) (x : Cell V) (xs : List (Pla
   pub rest : drop n (cells_of ys) ≡ drop n (cells_of xs)
 
 -- x was put in, or there was no room
-abbrev pub Putting : {V : Type 0} → (V → V → V) → Cell V → List (Place V) → ℕ → List (Place V) → Added → Type 0
-Putting {V} join x xs used ys Grown = Done join x xs used ys used × ((i : ℕ) × Found x.id (live used xs) (Some i)) × (map (λ c. c.id) (live used ys) ≡ map (λ c. c.id) (live used xs))
-Putting join x xs used ys Begun = Done join x xs used ys (used + 1) × Absent x.id (live used xs) × (live (used + 1) ys ≡ live used xs ++ x ∷ []) × (used < length xs)
-Putting join x xs used ys NoRoom = (ys ≡ xs) × Absent x.id (live used xs) × (used ≡ length xs)
+abbrev pub Putting : {V : Type 0} → (V → V → V) → Cell V → List (Place V) → ℕ → List (Place V) → Result Added NoRoom → Type 0
+Putting {V} join x xs used ys (Ok Grown) = Done join x xs used ys used × ((i : ℕ) × Found x.id (live used xs) (Some i)) × (map (λ c. c.id) (live used ys) ≡ map (λ c. c.id) (live used xs))
+Putting join x xs used ys (Ok Begun) = Done join x xs used ys (used + 1) × Absent x.id (live used xs) × (live (used + 1) ys ≡ live used xs ++ x ∷ []) × (used < length xs)
+Putting join x xs used ys (Err full) = (ys ≡ xs) × Absent x.id (live used xs) × (used ≡ length xs)
 
 -- a place whose bucket is empty
 abbrev pub emptied : {V : Type 0} → Place V → Place V

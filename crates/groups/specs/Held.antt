@@ -1,5 +1,5 @@
 -- What open and sorted groups stand for, and what becomes of that. Assumes nothing.
-use Rattle.std.specs.Prelude.{◌≡◌, ℕ, ◌^◌, ◌≤◌, cond, List, [], ◌∷◌, ◌++◌, map, length, drop, vec_items, vec_len, Result, Vec, MatchResult, ◌==◌, nat_lt}
+use Rattle.std.specs.Prelude.{◌≡◌, ℕ, ◌^◌, ◌≤◌, cond, List, [], ◌∷◌, ◌++◌, map, length, drop, vec_items, vec_len, Result, Ok, Err, OnErr, Vec, MatchResult, ◌==◌, nat_lt}
 use Rattle.std.specs.declared.alloc.Global.{Global}
 use Rattle.cells.specs.declared.id.GroupId.{GroupId}
 use Rattle.cells.specs.declared.cell.Cell.{Cell}
@@ -8,7 +8,8 @@ use Rattle.cells.specs.Columns.{Group, group, put_group, column}
 use Rattle.cells.specs.Contributions.{there}
 use Rattle.cells.specs.declared.place.Place.{Place}
 use Rattle.groups.specs.declared.added.Added.{Added}
-use Rattle.groups.specs.declared.added.Added.TheVariants.{Grown, Begun, NoRoom}
+use Rattle.groups.specs.declared.added.Added.TheVariants.{Grown, Begun}
+use Rattle.groups.specs.declared.added.NoRoom.{NoRoom}
 use Rattle.groups.specs.declared.held.OpenGroups.{OpenGroups}
 use Rattle.groups.specs.declared.held.SortedGroups.{SortedGroups}
 use Rattle.groups.specs.Chains.{cells_of, live}
@@ -33,36 +34,34 @@ Starting places r = MatchResult r
     (λ v. (v ≡ places) × (2 ^ 32 ≤ vec_len places))
 
 -- what becomes of a contribution to the group p, where there are so many places
-abbrev pub answer : {V : Type 0} → GroupId → List (Cell V) → ℕ → Added
-answer p gs places = cond (there p gs) Grown (cond (nat_lt (length gs) places) Begun NoRoom)
+abbrev pub answer : {V : Type 0} → GroupId → List (Cell V) → ℕ → Result Added NoRoom
+answer p gs places = cond (there p gs) (Ok Grown) (cond (nat_lt (length gs) places) (Ok Begun) (Err (record {})))
 
 -- the groups after a contribution
-abbrev pub after : {V : Type 0} → Added → (V → V → V) → Cell V → List (Cell V) → List (Cell V)
-after Grown join x gs = put join x gs
-after Begun join x gs = put join x gs
-after NoRoom join x gs = gs
+abbrev pub after : {V : Type 0} → Result Added NoRoom → (V → V → V) → Cell V → List (Cell V) → List (Cell V)
+after (Ok came) join x gs = put join x gs
+after (Err full) join x gs = gs
 
 -- the groups of column k after a contribution
-abbrev pub column_after : {V : Type 0} → Added → (V → V → V) → Cell V → ℕ → List (Group V) → List (Group V)
-column_after Grown join x k gs = cond (x.id.column == k) (put_group join (group x) gs) gs
-column_after Begun join x k gs = cond (x.id.column == k) (put_group join (group x) gs) gs
-column_after NoRoom join x k gs = gs
+abbrev pub column_after : {V : Type 0} → Result Added NoRoom → (V → V → V) → Cell V → ℕ → List (Group V) → List (Group V)
+column_after (Ok came) join x k gs = cond (x.id.column == k) (put_group join (group x) gs) gs
+column_after (Err full) join x k gs = gs
 
 -- a new group arrives last, and a group that has grown stays where it is
-abbrev pub Arrival : {V : Type 0} → Added → Cell V → List (Cell V) → List (Cell V) → Type 0
-Arrival Grown x before now = map (λ c. c.id) now ≡ map (λ c. c.id) before
-Arrival Begun x before now = now ≡ before ++ x ∷ []
-Arrival NoRoom x before now = now ≡ before
+abbrev pub Arrival : {V : Type 0} → Result Added NoRoom → Cell V → List (Cell V) → List (Cell V) → Type 0
+Arrival (Ok Grown) x before now = map (λ c. c.id) now ≡ map (λ c. c.id) before
+Arrival (Ok Begun) x before now = now ≡ before ++ x ∷ []
+Arrival (Err full) x before now = now ≡ before
 
 -- a contribution x to the groups o came to the groups p, and r was answered
-pub record Adding {V : Type 0} (join : V → V → V) (x : Cell V) (o p : OpenGroups V) (r : Added) : Type 0 where
+pub record Adding {V : Type 0} (join : V → V → V) (x : Cell V) (o p : OpenGroups V) (r : Result Added NoRoom) : Type 0 where
   pub answers : r ≡ answer x.id (open_groups o) (vec_len o.places)
   pub groups : open_groups p ≡ after r join x (open_groups o)
   pub columns : (k : ℕ) → column k (open_groups p) ≡ column_after r join x k (column k (open_groups o))
   pub arrival : Arrival r x (arrived o) (arrived p)
   pub rest : drop (length (open_groups p)) (cells_of (vec_items p.places)) ≡ drop (length (open_groups p)) (cells_of (vec_items o.places))
   pub room : vec_len p.places ≡ vec_len o.places
-  pub unchanged : r ≡ NoRoom → (vec_items p.places ≡ vec_items o.places) × (p.used ≡ o.used)
+  pub unchanged : OnErr r ((vec_items p.places ≡ vec_items o.places) × (p.used ≡ o.used))
 
 -- open groups o were sorted as s
 pub record Sorting {V : Type 0} (o : OpenGroups V) (s : SortedGroups V) : Type 0 where

@@ -1,11 +1,13 @@
-// Cells in order of arrival, found by hash chains that lie inside the places.
-ghost use Rattle.std.specs.Prelude.{◌≡◌, ℕ, ◌+◌, ◌^◌, ◌<◌, ◌≤◌, length, drop, slice_index_or, slice_set};
+// Cells in order of arrival, found by hash chains that lie inside the places. Each function works on a
+// lent slice, of whose places the first `used` are live; a struct of the two would hold its invariant
+// only between the writes here, and OpenGroups holds it there.
+ghost use Rattle.std.specs.Prelude.{◌≡◌, ℕ, ◌+◌, ◌^◌, ◌<◌, ◌≤◌, length, drop, slice_index_or, slice_set, MatchOption};
 ghost use Rattle.cells.specs.Groups.{in_order, Apart};
 ghost use Rattle.cells.specs.Groups.{grown as has_grown};
 ghost use Rattle.groups.specs.Chains.{bucket_of};
-ghost use Rattle.groups.specs.Chains.{cells_of, heads, nexts, live, Chained, Found, Putting};
+ghost use Rattle.groups.specs.Chains.{cells_of, live, Chained, Found, Putting};
 
-use crate::added::Added;
+use crate::added::{Added, NoRoom};
 use cells::cell::{Cell, grown};
 use cells::id::GroupId;
 use cells::place::{Place, is_end, is_full, sort_places};
@@ -20,22 +22,29 @@ fn bucket(id: &GroupId, count: usize) -> usize
     (id.hash() % count as u64) as usize
 }
 
+// The index that a link goes to, if it goes to one.
+fn target(link: u32) -> Option<usize>
+    ensures { MatchOption result (link ≡ 0) (λ i. i + 1 ≡ link) }
+{
+    let above = link as usize;
+    if is_end(above) { None } else { Some(above - 1) }
+}
+
 // Where the cell of a group is among the live ones.
 pub(crate) fn seek<V>(places: &[Place<V>], used: usize, id: &GroupId) -> Option<usize>
     requires { Chained places.now used }
     ensures { Found id.now (live used places.now) result }
 {
-    if places.len() == 0 {
+    if places.is_empty() {
         return None;
     }
     let b = bucket(id, places.len());
-    let mut at = places[b].head as usize;
-    while !is_end(at) {
-        let i = at - 1;
+    let mut at = places[b].head;
+    while let Some(i) = target(at) {
         if places[i].cell.id.is(id) {
             return Some(i);
         }
-        at = places[i].next as usize;
+        at = places[i].next;
     }
     None
 }
@@ -50,47 +59,6 @@ pub(crate) fn clear<V: Copy>(places: &mut [Place<V>])
     }
 }
 
-// Puts another place at i.
-fn replace<V: Copy>(places: &mut [Place<V>], i: usize, place: Place<V>)
-    requires { i < length places.old }
-    ensures { places.new ≡ slice_set places.old i place }
-{
-    places[i] = place;
-}
-
-// Links the cell at i to an older one.
-fn set_next<V: Copy>(places: &mut [Place<V>], i: usize, older: u32)
-    requires { i < length places.old }
-    ensures cells { cells_of places.new ≡ cells_of places.old }
-    ensures heads { heads places.new ≡ heads places.old }
-    ensures nexts { nexts places.new ≡ slice_set (nexts places.old) i older }
-{
-    let place = places[i];
-    replace(places, i, place.with_next(older));
-}
-
-// Lets the bucket i begin at a link.
-fn set_head<V: Copy>(places: &mut [Place<V>], i: usize, newest: u32)
-    requires { i < length places.old }
-    ensures cells { cells_of places.new ≡ cells_of places.old }
-    ensures heads { heads places.new ≡ slice_set (heads places.old) i newest }
-    ensures nexts { nexts places.new ≡ nexts places.old }
-{
-    let place = places[i];
-    replace(places, i, place.with_head(newest));
-}
-
-// Puts another cell at i.
-fn set_cell<V: Copy>(places: &mut [Place<V>], i: usize, cell: Cell<V>)
-    requires { i < length places.old }
-    ensures cells { cells_of places.new ≡ slice_set (cells_of places.old) i cell }
-    ensures heads { heads places.new ≡ heads places.old }
-    ensures nexts { nexts places.new ≡ nexts places.old }
-{
-    let place = places[i];
-    replace(places, i, place.with_cell(cell));
-}
-
 // Puts the cell at i into its chain, where those before it are chained.
 fn link<V: Copy>(places: &mut [Place<V>], i: usize)
     requires within { i < length places.old }
@@ -102,8 +70,8 @@ fn link<V: Copy>(places: &mut [Place<V>], i: usize)
     let count = places.len();
     let b = bucket(&places[i].cell.id, count);
     let newest = places[b].head;
-    set_next(places, i, newest);
-    set_head(places, b, (i + 1) as u32);
+    places[i] = places[i].with_next(newest);
+    places[b] = places[b].with_head((i + 1) as u32);
 }
 
 // One cell more.
@@ -114,7 +82,7 @@ fn append<V: Copy>(places: &mut [Place<V>], used: usize, cell: Cell<V>)
     ensures cells { cells_of places.new ≡ slice_set (cells_of places.old) used cell }
     ensures chained { Chained places.new (used + 1) }
 {
-    set_cell(places, used, cell);
+    places[used] = places[used].with_cell(cell);
     link(places, used);
 }
 
@@ -124,8 +92,8 @@ fn grow<M: Measure>(measure: &M, places: &mut [Place<M::Value>], i: usize, new: 
     ensures cells { cells_of places.new ≡ slice_set (cells_of places.old) i (has_grown (M.Measure.meaning measure.now).join new (slice_index_or (cells_of places.old) i new)) }
     ensures chained { (used : ℕ) → Chained places.old used → Chained places.new used }
 {
-    let old = places[i].cell;
-    set_cell(places, i, grown(measure, new, old));
+    let cell = grown(measure, new, places[i].cell);
+    places[i] = places[i].with_cell(cell);
 }
 
 // A contribution to its group, which begins where there is none and a place is left.
@@ -134,24 +102,21 @@ pub(crate) fn put<M: Measure>(
     places: &mut [Place<M::Value>],
     used: usize,
     new: Cell<M::Value>,
-) -> Added
+) -> Result<Added, NoRoom>
     requires few { length places.old < 2 ^ 32 }
     requires chained { Chained places.old used }
     requires apart { Apart (live used places.old) }
     ensures { Putting (M.Measure.meaning measure.now).join new places.old used places.new result }
 {
-    let whole: &[Place<M::Value>] = places;
-    match seek(whole, used, &new.id) {
+    match seek(places, used, &new.id) {
         Some(i) => {
             grow(measure, places, i, new);
-            Added::Grown
+            Ok(Added::Grown)
         }
+        None if is_full(used, places.len()) => Err(NoRoom),
         None => {
-            if is_full(used, places.len()) {
-                return Added::NoRoom;
-            }
             append(places, used, new);
-            Added::Begun
+            Ok(Added::Begun)
         }
     }
 }
@@ -164,6 +129,7 @@ pub(crate) fn relink<V: Copy>(places: &mut [Place<V>], used: usize)
     ensures chained { Chained places.new used }
 {
     clear(places);
+    // the index is what is linked
     for i in 0..used {
         link(places, i);
     }
@@ -176,5 +142,5 @@ pub(crate) fn sort<V>(places: &mut [Place<V>], used: usize)
     ensures live { live used places.new ≡ in_order (live used places.old) }
     ensures rest { drop used (cells_of places.new) ≡ drop used (cells_of places.old) }
 {
-    sort_places(&mut places[0..used]);
+    sort_places(&mut places[..used]);
 }

@@ -1,4 +1,7 @@
-// Groups, by type: open to contributions, or sorted. Each holds its places, and gives them back.
+// Groups, by type: open to contributions, or sorted. Each holds its places, and gives them back. These are
+// given once and never grow, so that memory is fixed: no map stands here, since a map allocates. The two
+// are no one type with a state for a parameter: what they keep and what their groups are differ, and a
+// trait that names both is longer than the three one-line methods which they share.
 ghost use Rattle.std.specs.Prelude.{◌^◌, ◌<◌, vec_len};
 ghost use Rattle.groups.specs.Chains.{Linked, Ordered};
 

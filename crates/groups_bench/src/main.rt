@@ -5,9 +5,8 @@
 use cells::cell::Cell;
 use cells::id::GroupId;
 use cells::place::Place;
-use groups::added::Added;
 use groups::held::{OpenGroups, SortedGroups};
-use measures::sum::Sum;
+use measures::sum::SUM;
 use std::io;
 use std::time::Instant;
 
@@ -16,11 +15,7 @@ const CONTRIBUTIONS: u32 = 1_000_000;
 const PLACES: usize = 65_535;
 
 fn contribution(random: u64, keys: u64) -> Cell<i64> {
-    let spread = if keys == 0 {
-        0
-    } else {
-        random / 0x1_0000_0000 % keys
-    };
+    let spread = (random / 0x1_0000_0000).checked_rem(keys).unwrap_or(0);
     let key = (spread.wrapping_mul(40_503) % 0x1_0000_0000) as u32;
     Cell {
         id: GroupId {
@@ -40,10 +35,8 @@ fn fill(groups: &mut OpenGroups<i64>, keys: u64) -> u64 {
         random = random
             .wrapping_mul(6_364_136_223_846_793_005)
             .wrapping_add(1_442_695_040_888_963_407);
-        match groups.add(&Sum, contribution(random, keys)) {
-            Added::Grown => {}
-            Added::Begun => {}
-            Added::NoRoom => turned_away = turned_away.wrapping_add(1),
+        if groups.add(&SUM, contribution(random, keys)).is_err() {
+            turned_away = turned_away.wrapping_add(1);
         }
     }
     turned_away

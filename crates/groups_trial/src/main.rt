@@ -5,46 +5,19 @@ use any_measure::any::AnyMeasure;
 use cells::cell::Cell;
 use cells::id::GroupId;
 use cells::place::Place;
-use groups::added::Added;
 use groups::held::{OpenGroups, SortedGroups};
 use measures::answer::Answer;
 use measures::count::Count;
-use measures::least::Least;
-use measures::mean::Mean;
+use measures::least::LEAST;
+use measures::mean::MEAN;
 use measures::measure::Measure;
-use measures::sum::Sum;
-use std::alloc::{AllocError, Global};
+use measures::sum::SUM;
 use std::io;
 
 fn id(column: u8, key: i32) -> GroupId {
     GroupId {
         column,
         key: [key, 0, 0, 0],
-    }
-}
-
-// Places that hold what they like.
-fn places_of<V: Copy>(heap: Global, n: u8, cell: Cell<V>) -> Result<Vec<Place<V>>, AllocError> {
-    let mut places = Vec::new(heap);
-    for _ in 0..n {
-        places.push(Place::new(cell))?;
-    }
-    Ok(places)
-}
-
-fn outcome(added: Added) -> &'static str {
-    match added {
-        Added::Grown => "grown",
-        Added::Begun => "begun",
-        Added::NoRoom => "no room",
-    }
-}
-
-fn show(rt: &HostRuntime, answer: Answer) -> io::Result<()> {
-    match answer {
-        Answer::Number(n) => println!(rt; " {n}"),
-        Answer::Mean { sum, rows } => println!(rt; " {sum}/{rows}"),
-        Answer::NoRows => println!(rt; " -"),
     }
 }
 
@@ -63,8 +36,11 @@ fn add<M: Measure>(
     let column = id.column;
     let key = id.key[0];
     let missing = groups.missing(&[id, id]);
-    let text = outcome(groups.add(measure, new));
-    println!(rt; "  column {column} key {key}: {missing} missing, {text}")
+    print!(rt; "  column {column} key {key}: {missing} missing, ")?;
+    match groups.add(measure, new) {
+        Ok(added) => println!(rt; "{added}"),
+        Err(no_room) => println!(rt; "{no_room}"),
+    }
 }
 
 fn list<M: Measure<Answer = Answer>>(
@@ -77,8 +53,8 @@ fn list<M: Measure<Answer = Answer>>(
         let column = cell.id.column;
         let key = cell.id.key[0];
         let rows = cell.rows;
-        print!(rt; "  column {column} key {key} rows {rows}")?;
-        show(rt, measure.answer(cell.value, rows))?;
+        let answer = measure.answer(cell.value, rows);
+        println!(rt; "  column {column} key {key} rows {rows} {answer}")?;
     }
     Ok(())
 }
@@ -88,7 +64,7 @@ fn trial<M: Measure<Answer = Answer>>(
     rt: &HostRuntime,
     name: &str,
     measure: M,
-    places: u8,
+    places: usize,
 ) -> io::Result<()> {
     println!(rt; "{name}, {places} places")?;
     let waste = Cell {
@@ -96,9 +72,8 @@ fn trial<M: Measure<Answer = Answer>>(
         rows: 9,
         value: measure.one(&[99]),
     };
-    let mut groups = match OpenGroups::start(places_of(rt.alloc(), places, waste)?) {
-        Ok(groups) => groups,
-        Err(_) => return Ok(()),
+    let Ok(mut groups) = OpenGroups::start(vec![in rt.alloc(); Place::new(waste); places]?) else {
+        return Ok(());
     };
     add(rt, &mut groups, &measure, id(0, 7), 5)?;
     add(rt, &mut groups, &measure, id(1, 7), 4)?;
@@ -116,11 +91,11 @@ fn trial<M: Measure<Answer = Answer>>(
 
 fn main(rt: HostRuntime) -> io::Result<()> {
     trial(&rt, "count", Count, 0)?;
-    trial(&rt, "sum", Sum, 1)?;
-    trial(&rt, "sum", Sum, 2)?;
+    trial(&rt, "sum", SUM, 1)?;
+    trial(&rt, "sum", SUM, 2)?;
     trial(&rt, "count", Count, 3)?;
-    trial(&rt, "least", Least, 3)?;
-    trial(&rt, "mean", Mean, 4)?;
+    trial(&rt, "least", LEAST, 3)?;
+    trial(&rt, "mean", MEAN, 4)?;
     trial(&rt, "a sum picked at run time", AnyMeasure::Sum, 3)?;
     trial(&rt, "a least picked at run time", AnyMeasure::Least, 2)
 }

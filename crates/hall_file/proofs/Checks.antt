@@ -1,7 +1,6 @@
 -- From the parts to the whole file.
 use Rattle.std.proofs.Common.{◌≡◌, ℕ, ◌-◌, ◌≤◌, List, ◌++◌, length, take, Some, None, Option, sym, refl, ap, ◌∙◌, arith}
 use Rattle.std.proofs.lemmas.List.{length-append, take_at}
-use Rattle.measures.specs.Values.{most_rows}
 use Rattle.measures.specs.Meaning.{Meaning}
 use Rattle.readers.specs.Readers.{changed, go_on, after}
 use Rattle.readers.proofs.Inverses.{none_some}
@@ -27,12 +26,6 @@ module _ {M V A : Type 0} {meaning : M → Meaning V A} {found : ℕ → Option 
   module _ (h : Head) (body : List ℕ) (here : Some (h, body) ≡ head bs) where
     good_head : GoodHead h
     good_head = (inv_head.only bs (h, body) (sym here)).0
-
-    pub few_fields : h.fields ≤ 8
-    few_fields = good_head.fields_few
-
-    pub few_rows : h.rows ≤ most_rows
-    few_rows = good_head.rows_few
 
     file_is : changed content (changed (λ y. (h, y)) (columns meaning found h body)) ≡ file meaning found bs
     unfolding file
@@ -78,11 +71,11 @@ module _ {M V A : Type 0} {meaning : M → Meaning V A} {found : ℕ → Option 
             }
 
 -- the front of a list that ends in another
-pub front : (xs ys zs : List ℕ) → zs ≡ xs ++ ys → take (length zs - length ys - 0) zs ≡ xs
+pub front : (xs ys zs : List ℕ) → zs ≡ xs ++ ys → take (length zs - length ys) zs ≡ xs
 front xs ys zs e =
     let l = ap length e ∙ length-append xs ys in
-    let n : length xs ≡ length zs - length ys - 0 = omega arith in
-    ap (take (length zs - length ys - 0)) e ∙ take_at xs ys (length zs - length ys - 0) n
+    let n : length xs ≡ length zs - length ys = omega arith in
+    ap (take (length zs - length ys)) e ∙ take_at xs ys (length zs - length ys) n
 
 pub no_longer : (xs ys zs : List ℕ) → zs ≡ xs ++ ys → length ys ≤ length zs
 no_longer xs ys zs e = let l = ap length e ∙ length-append xs ys in omega arith

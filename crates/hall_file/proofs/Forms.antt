@@ -91,7 +91,7 @@ measured_reads_back takes fields (Some f) e = let q = and_parts (leb 1 takes) (l
     go true z a t = let y = eqb-true takes 0 z in absurd (omega arith)
     go false z a t = cond-true (ltb f fields) _ _ t
 
-measured_is_a_byte : (takes fields : ℕ) → fields ≤ 8 → (m : Option ℕ) → measured_fits takes fields m ≡ true → measured_byte m < 256
+measured_is_a_byte : (takes fields : ℕ) → fields < 256 → (m : Option ℕ) → measured_fits takes fields m ≡ true → measured_byte m < 256
 measured_is_a_byte takes fields h None e = omega arith
 measured_is_a_byte takes fields h (Some f) e = let a = ltb-true f fields (and_parts (leb 1 takes) (ltb f fields) e).1 in omega arith
 
@@ -137,13 +137,17 @@ inv_value m keeps formed n some few =
     let c = was_possible m n (m.reads bs) v e in
     (c.1, singles bs ∙ keeps.nothing_else_reads_so v bs (n, some, few, c.1) ok c.0))
 
--- a mask below 2 to the fields is a byte, and has at most four bits
-pub good_mask : (fields : ℕ) → fields ≤ 8 → (m : ℕ) → mask_fits fields m ≡ true → (m < 256) × (ones m ≤ 4)
-good_mask fields h m e =
+-- a mask below 2 to the fields is a byte
+byte_mask : (fields : ℕ) → fields ≤ 8 → (m : ℕ) → mask_fits fields m ≡ true → m < 256
+byte_mask fields h m e =
     let q = and_parts (ltb m (2 ^ fields)) (leb (ones m) 4) e in
     let a = ltb-true m (2 ^ fields) q.0 in
     let b : 2 ^ fields ≤ 2 ^ 8 = pow_mono h in
-    (omega arith, leb-true (ones m) 4 q.1)
+    omega arith
+
+-- and has at most four bits
+pub narrow_mask : (fields m : ℕ) → mask_fits fields m ≡ true → ones m ≤ 4
+narrow_mask fields m e = leb-true (ones m) 4 (and_parts (ltb m (2 ^ fields)) (leb (ones m) 4) e).1
 
 -- what the proofs use of a type of measures
 pub record Lawful {M V A : Type 0} (meaning : M → Meaning V A) (found : ℕ → Option M) : Type 0 where
@@ -194,11 +198,11 @@ module _ {M V A : Type 0} {meaning : M → Meaning V A} {found : ℕ → Option 
       to : (x : Group V × List (Group V)) → ((GoodGroup meaning s x.0 × (x.0.rows ≤ left)) × (is_after last x.0.key ≡ true)) × Run s c (Some x.0.key) (left - x.0.rows) x.1 → Run s (suc c) last left (x.0 ∷ x.1) × (group_bytes meaning s x.0 ++ groups_bytes meaning s x.1 ≡ groups_bytes meaning s (x.0 ∷ x.1))
       to x r = let e = r.1.many in let a = r.1.adds in let l = r.0.0.1 in (record { many = omega arith; each = (r.0.0.0, r.1.each); ascends = (r.0.1, r.1.ascends); adds = omega arith }, refl)
 
-  -- a column's shape
-  pub inv_shape : (fields : ℕ) → fields ≤ 8 → Inverse (GoodShape meaning fields) (shape_bytes meaning) (shape meaning found fields)
+  -- a column's shape, whose mask is a byte
+  pub inv_byte_shape : (fields : ℕ) → fields < 256 → Inverse (λ s. GoodShape meaning fields s × (s.mask < 256)) (shape_bytes meaning) (shape meaning found fields)
   unfolding shape
-  inv_shape fields h =
-      inv_via (λ q. record { measure = q.0; measured = q.1.0; mask = q.1.1 }) (GoodShape meaning fields) (shape_bytes meaning)
+  inv_byte_shape fields h =
+      inv_via (λ q. record { measure = q.0; measured = q.1.0; mask = q.1.1 }) (λ s. GoodShape meaning fields s × (s.mask < 256)) (shape_bytes meaning)
       (inv_seq (inv_chosen found (λ _. Unit {0}) (λ m. (meaning m).kind ∷ []) inv_byte
       (λ m ok. ((meaning m).kind, (laws.formed m).kind_is_a_byte, laws.finds m, refl))
       (λ b m ok e. (tt, ap (λ x. x ∷ []) (laws.found_by b m e))))
@@ -206,15 +210,19 @@ module _ {M V A : Type 0} {meaning : M → Meaning V A} {found : ℕ → Option 
       (λ x ok. (measured_byte x, measured_is_a_byte (meaning m).fields fields h x ok, measured_reads_back (meaning m).fields fields x ok, refl))
       (λ b x ok e. measured_only (meaning m).fields fields b x e))
       (λ _ _. inv_if (mask_fits fields) inv_byte)))
-      (λ s ok. ((s.measure, (s.measured, s.mask)), (tt, (ok.measured, ((good_mask fields h s.mask ok.mask).0, ok.mask))), refl, refl))
-      (λ x ok. (record { measured = ok.1.0; mask = ok.1.1.1 }, refl))
+      (λ s ok. ((s.measure, (s.measured, s.mask)), (tt, (ok.0.measured, (ok.1, ok.0.mask))), refl, refl))
+      (λ x ok. ((record { measured = ok.1.0; mask = ok.1.1.1 }, ok.1.1.0), refl))
+
+  -- a column's shape, of no more than eight fields
+  pub inv_shape : (fields : ℕ) → fields ≤ 8 → Inverse (GoodShape meaning fields) (shape_bytes meaning) (shape meaning found fields)
+  inv_shape fields h = inv_like (GoodShape meaning fields) (inv_byte_shape fields (omega arith)) (λ s ok. (ok, byte_mask fields h s.mask ok.mask)) (λ s ok. ok.0)
 
   -- a column
   pub inv_column : (fields all : ℕ) → fields ≤ 8 → all ≤ most_rows → Inverse (GoodColumn meaning fields all) (column_bytes meaning) (column meaning found fields all)
   unfolding column
   inv_column fields all h few =
       inv_via (λ q. record { shape = q.0; groups = q.1.1 }) (GoodColumn meaning fields all) (column_bytes meaning)
-      (inv_seq (inv_shape fields h) (λ s ok. inv_seq (inv_number 2) (λ c _. inv_groups s (good_mask fields h s.mask ok.mask).1 c None all few)))
+      (inv_seq (inv_shape fields h) (λ s ok. inv_seq (inv_number 2) (λ c _. inv_groups s (narrow_mask fields s.mask ok.mask) c None all few)))
       (λ c ok. let f = ok.few in let a = ok.adds in ((c.shape, (length c.groups, c.groups)), (ok.shaped, (omega arith, record { many = refl; each = ok.each; ascends = ok.ascends; adds = omega arith })), refl, refl))
       (λ x ok. let a = ok.1.1.adds in let e = ok.1.1.many in let f = ok.1.0 in (
         record { shaped = ok.0; each = ok.1.1.each; ascends = ok.1.1.ascends; adds = omega arith; few = omega arith },

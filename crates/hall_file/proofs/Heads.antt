@@ -12,7 +12,7 @@ use Rattle.hall_file.specs.declared.head.Head.{Head}
 use Rattle.hall_file.specs.Written.{measured_byte, head_bytes, shape_bytes}
 use Rattle.hall_file.specs.Rules.{mask_fits}
 use Rattle.hall_file.specs.Reading.{head, shape, measured_of}
-use Rattle.hall_file.proofs.Forms.{GoodHead, inv_head, Lawful, inv_shape, measured_only, measured_reads_back}
+use Rattle.hall_file.proofs.Forms.{GoodHead, inv_head, Lawful, inv_byte_shape, measured_only, measured_reads_back}
 
 -- seven bytes at the front
 seven : (bs : List ℕ) → 7 ≤ length bs → bs ≡ get_or bs 0 0 ∷ get_or bs 1 0 ∷ get_or bs 2 0 ∷ get_or bs 3 0 ∷ get_or bs 4 0 ∷ get_or bs 5 0 ∷ get_or bs 6 0 ∷ drop 7 bs
@@ -94,14 +94,14 @@ head_yes bs f h n r =
         o ∙ ap (λ m. bytes_of 4 m ++ take (length (drop 7 bs) - 4) (drop 4 (drop 7 bs))) s
         ∙ ap (λ l. bytes_of 4 n ++ l) (take_rest (drop 7 bs) 4 ∙ d ∙ sym (take_rest bs 11))
 
-module _ {M V A : Type 0} {meaning : M → Meaning V A} {found : ℕ → Option M} (laws : Lawful meaning found) (fields : ℕ) (few : fields ≤ 8) (bs : List ℕ) where
+module _ {M V A : Type 0} {meaning : M → Meaning V A} {found : ℕ → Option M} (laws : Lawful meaning found) (fields : ℕ) (few : fields < 256) (bs : List ℕ) where
   -- too few bytes for a shape
   pub shape_short : length bs < 3 → None ≡ shape meaning found fields bs
-  shape_short h = none_unless (inv_shape laws fields few) bs (λ s rest ok e. let l = ap length e in omega arith)
+  shape_short h = none_unless (inv_byte_shape laws fields few) bs (λ s rest ok e. let l = ap length e in omega arith)
 
   -- a kind that no measure has
   pub shape_no_kind : None ≡ found (get_or bs 0 0) → None ≡ shape meaning found fields bs
-  shape_no_kind h = none_unless (inv_shape laws fields few) bs (λ s rest ok e. none_some s.measure (h ∙ ap (λ l. found (get_or l 0 0)) e ∙ laws.finds s.measure))
+  shape_no_kind h = none_unless (inv_byte_shape laws fields few) bs (λ s rest ok e. none_some s.measure (h ∙ ap (λ l. found (get_or l 0 0)) e ∙ laws.finds s.measure))
 
   same_kind : (m : M) (s : ColumnShape M) (rest : List ℕ) → Some m ≡ found (get_or bs 0 0) → bs ≡ shape_bytes meaning s ++ rest → m ≡ s.measure
   same_kind m s rest h e = let z : Some m ≡ Some s.measure = h ∙ ap (λ l. found (get_or l 0 0)) e ∙ laws.finds s.measure in cc
@@ -109,22 +109,22 @@ module _ {M V A : Type 0} {meaning : M → Meaning V A} {found : ℕ → Option 
   -- a wrong measured byte
   pub shape_no_field : (m : M) → Some m ≡ found (get_or bs 0 0) → None ≡ measured_of (meaning m).fields fields (get_or bs 1 0) → None ≡ shape meaning found fields bs
   shape_no_field m h bad =
-      none_unless (inv_shape laws fields few) bs (λ s rest ok e.
+      none_unless (inv_byte_shape laws fields few) bs (λ s rest ok e.
       none_some s.measured
-      (bad ∙ ap (λ x. measured_of (meaning x).fields fields (get_or bs 1 0)) (same_kind m s rest h e) ∙ ap (λ l. measured_of (meaning s.measure).fields fields (get_or l 1 0)) e ∙ measured_reads_back (meaning s.measure).fields fields s.measured ok.measured))
+      (bad ∙ ap (λ x. measured_of (meaning x).fields fields (get_or bs 1 0)) (same_kind m s rest h e) ∙ ap (λ l. measured_of (meaning s.measure).fields fields (get_or l 1 0)) e ∙ measured_reads_back (meaning s.measure).fields fields s.measured ok.0.measured))
 
   -- a wrong mask
   pub shape_no_mask : false ≡ mask_fits fields (get_or bs 2 0) → None ≡ shape meaning found fields bs
   shape_no_mask bad =
-      none_unless (inv_shape laws fields few) bs (λ s rest ok e.
-      both_ways (mask_fits fields (get_or bs 2 0)) (sym bad) (ap (λ l. mask_fits fields (get_or l 2 0)) e ∙ ok.mask))
+      none_unless (inv_byte_shape laws fields few) bs (λ s rest ok e.
+      both_ways (mask_fits fields (get_or bs 2 0)) (sym bad) (ap (λ l. mask_fits fields (get_or l 2 0)) e ∙ ok.0.mask))
 
   -- kind, measured byte and mask are right
-  pub shape_yes : (m : M) (x : Option ℕ) → 3 ≤ length bs → Some m ≡ found (get_or bs 0 0) → Some x ≡ measured_of (meaning m).fields fields (get_or bs 1 0) → true ≡ mask_fits fields (get_or bs 2 0) → Some (record { measure = m; measured = x; mask = get_or bs 2 0 }, take (length bs - 3) (drop 3 bs)) ≡ shape meaning found fields bs
-  shape_yes m x l h f o =
+  pub shape_yes : (m : M) (x : Option ℕ) → 3 ≤ length bs → get_or bs 2 0 < 256 → Some m ≡ found (get_or bs 0 0) → Some x ≡ measured_of (meaning m).fields fields (get_or bs 1 0) → true ≡ mask_fits fields (get_or bs 2 0) → Some (record { measure = m; measured = x; mask = get_or bs 2 0 }, take (length bs - 3) (drop 3 bs)) ≡ shape meaning found fields bs
+  shape_yes m x l byte h f o =
       let q = measured_only (meaning m).fields fields (get_or bs 1 0) x (sym f) in
       let kind = laws.found_by (get_or bs 0 0) m (sym h) in
       let field : get_or bs 1 0 ≡ measured_byte x = ap (λ l. get_or l 0 0) q.1 in
-      some_when (inv_shape laws fields few) bs (record { measure = m; measured = x; mask = get_or bs 2 0 }) (take (length bs - 3) (drop 3 bs))
-      (record { measured = q.0; mask = sym o })
+      some_when (inv_byte_shape laws fields few) bs (record { measure = m; measured = x; mask = get_or bs 2 0 }) (take (length bs - 3) (drop 3 bs))
+      (record { measured = q.0; mask = sym o }, byte)
       (three bs l ∙ ap (λ b. b ∷ get_or bs 1 0 ∷ get_or bs 2 0 ∷ take (length bs - 3) (drop 3 bs)) kind ∙ ap (λ b. (meaning m).kind ∷ b ∷ get_or bs 2 0 ∷ take (length bs - 3) (drop 3 bs)) field)

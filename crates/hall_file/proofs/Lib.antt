@@ -1,3 +1,4 @@
+pub mod Masks
 pub mod Forms
 pub mod Heads
 pub mod Steps

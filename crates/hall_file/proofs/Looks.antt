@@ -1,7 +1,7 @@
 -- What views show, as the code looks at it.
 use Rattle.std.proofs.Common.{◌≡◌, ℕ, suc, ◌+◌, ◌-◌, ◌*◌, ◌<◌, ◌≤◌, min, List, [], ◌∷◌, ◌++◌, length, take, drop, ℤ, Some, Option, sym, refl, ap, ◌∙◌, suc-mul, add_comm, arith}
 use Rattle.std.specs.List.{flat_map, AllByRecursion}
-use Rattle.std.proofs.lemmas.List.{append_assoc, length-append, length-take, take_at, drop_at, take_rest}
+use Rattle.std.proofs.lemmas.List.{append_assoc, length-append, length-take, take_at, drop_at}
 use Rattle.measures.specs.Values.{most_rows}
 use Rattle.measures.specs.Bytes.{bytes_of}
 use Rattle.measures.specs.Meaning.{Meaning, Formed}
@@ -12,7 +12,7 @@ use Rattle.hall_file.specs.declared.shape.ColumnShape.{ColumnShape}
 use Rattle.hall_file.specs.Written.{Column, width, group_length, int_bytes, key_bytes, group_bytes, groups_bytes, shape_bytes, columns_bytes}
 use Rattle.hall_file.specs.Rules.{GoodGroup, GoodColumn, rows_of}
 use Rattle.hall_file.specs.Reading.{shape, group}
-use Rattle.hall_file.proofs.Forms.{Lawful, inv_shape, inv_group, good_mask}
+use Rattle.hall_file.proofs.Forms.{Lawful, inv_shape, inv_group, narrow_mask}
 
 -- pieces of one length
 pub length_joined : {X : Type 0} (f : X → List ℕ) (w : ℕ) (xs : List X) → AllByRecursion (λ x. length (f x) ≡ w) xs → length (flat_map f xs) ≡ length xs * w
@@ -98,7 +98,7 @@ module _ {M V A : Type 0} {meaning : M → Meaning V A} {found : ℕ → Option 
         counted = (inv_number 2).back (length c.groups) (gb ++ more) (omega arith);
         lies = refl;
         size = groups_size meaning laws.formed s c.groups (all_by (GoodGroup meaning s) (λ g. length g.key ≡ 4) (λ g ok. ok.keyed.0) c.groups good.each);
-        wide = (good_mask fields h s.mask good.shaped.mask).1;
+        wide = narrow_mask fields s.mask good.shaped.mask;
         few = each_within most_rows c.groups (omega arith);
         good = good;
         others_good = ok.1;
@@ -107,22 +107,21 @@ module _ {M V A : Type 0} {meaning : M → Meaning V A} {found : ℕ → Option 
   -- where its groups end, the other columns begin
   pub record Cut (gs more : List ℕ) (size : ℕ) (rest : List ℕ) : Type 0 where
     pub within : size ≤ length rest
-    pub groups : take (size - 0) rest ≡ gs
-    pub others : take (length rest - size) (drop size rest) ≡ more
+    pub groups : take size rest ≡ gs
+    pub others : drop size rest ≡ more
 
-  pub cut : {fields rows : ℕ} {cs : List (Column M V)} {bs : List ℕ} (r : FirstRead fields rows cs bs) (s : ColumnShape M) (left each : ℕ) (rest : List ℕ) → s ≡ r.first.shape → left ≡ length r.first.groups → each ≡ group_length s.mask → rest ≡ r.r2 → Cut (groups_bytes meaning r.first.shape r.first.groups) (columns_bytes meaning r.others) (left * each) rest
-  cut r s left each rest shaped many sized here =
+  pub cut : {fields rows : ℕ} {cs : List (Column M V)} {bs : List ℕ} (r : FirstRead fields rows cs bs) (s : ColumnShape M) (left each size : ℕ) (rest : List ℕ) → s ≡ r.first.shape → left ≡ length r.first.groups → each ≡ group_length s.mask → size ≡ left * each → rest ≡ r.r2 → Cut (groups_bytes meaning r.first.shape r.first.groups) (columns_bytes meaning r.others) size rest
+  cut r s left each size rest shaped many sized whole here =
       let gb = groups_bytes meaning r.first.shape r.first.groups in
       let more = columns_bytes meaning r.others in
-      let n : length gb ≡ left * each =
-      r.size ∙ ap (λ k. k * group_length r.first.shape.mask) (sym many) ∙ ap (λ k. left * k) (ap (λ x. group_length x.mask) (sym shaped) ∙ sym sized) in
+      let n : length gb ≡ size =
+      r.size ∙ ap (λ k. k * group_length r.first.shape.mask) (sym many) ∙ ap (λ k. left * k) (ap (λ x. group_length x.mask) (sym shaped) ∙ sym sized) ∙ sym whole in
       let e : rest ≡ gb ++ more = here ∙ r.lies in
       let l = ap length e ∙ length-append gb more in
-      let z : length gb ≡ left * each - 0 = omega arith in
       record {
         within = omega arith;
-        groups = ap (take (left * each - 0)) e ∙ take_at gb more (left * each - 0) z;
-        others = take_rest rest (left * each) ∙ ap (drop (left * each)) e ∙ drop_at gb more (left * each) n;
+        groups = ap (take size) e ∙ take_at gb more size n;
+        others = ap (drop size) e ∙ drop_at gb more size n;
       }
 
   -- the first of some groups, read where it lies

@@ -124,10 +124,10 @@ module _ {M V A : Type 0} (meaning : M → Meaning V A) (s : ColumnShape M) wher
 
   -- c groups, of which one is taken
   module _ (last : Option (List ℤ)) (left : ℕ) (bs : List ℕ) where
-    pub groups_more : (c : ℕ) (g : Group V) (rest : List ℕ) → 0 < c → Some (g, rest) ≡ group meaning s left bs → is_after last g.key ≡ true → after (groups meaning s c last left bs) ≡ after (groups meaning s (c - 1) (Some g.key) (left - g.rows) rest)
+    pub groups_more : (c d : ℕ) (g : Group V) (rest : List ℕ) → c ≡ suc d → Some (g, rest) ≡ group meaning s left bs → is_after last g.key ≡ true → after (groups meaning s c last left bs) ≡ after (groups meaning s d (Some g.key) (left - g.rows) rest)
     unfolding groups
-    groups_more zero g rest h e t = absurd (omega arith)
-    groups_more (suc c) g rest h e t =
+    groups_more zero d g rest h e t = absurd (omega arith)
+    groups_more (suc c) d g rest h e t =
         let o = groups meaning s c (Some g.key) (left - g.rows) rest in
         ap (λ o. after (changed listed (go_on o (λ g. groups meaning s c (Some g.key) (left - g.rows))))) (sym (kept_yes (λ g. is_after last g.key) g rest (group meaning s left bs) e t))
         ∙ after_changed listed (changed (λ y. (g, y)) o) ∙ after_changed (λ y. (g, y)) o

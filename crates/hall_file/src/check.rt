@@ -1,5 +1,5 @@
 // The check of a file.
-ghost use Rattle.std.specs.Prelude.{◌≡◌, ℕ, List, ◌++◌, length, Ok, Result, ◌==◌};
+ghost use Rattle.std.specs.Prelude.{◌≡◌, ℕ, List, ◌++◌, Ok, Result};
 ghost use Rattle.text.specs.declared.refusal.Refusal.{Refusal as Refused};
 ghost use Rattle.hall_file.specs.declared.view.View.{View as Viewed};
 ghost use Rattle.hall_file.specs.Written.{Content, file_bytes};
@@ -19,29 +19,16 @@ pub fn first_file<M: Measure>(bytes: &[u8]) -> Option<(View<'_>, &[u8])>
     let (head, body) = take_head(bytes)?;
     let rest = take_columns::<M>(head, body)?;
     let end = body.len() - rest.len();
-    Some((
-        View {
-            head,
-            body: &body[0..end],
-        },
-        rest,
-    ))
-}
-
-fn is_end(rest: &[u8]) -> bool
-    ensures { result ≡ (length rest.now == 0) }
-{
-    rest.len() == 0
+    let body = &body[..end];
+    Some((View { head, body }, rest))
 }
 
 // The file in bytes that are well made; 7 otherwise.
 pub fn check<M: Measure>(bytes: &[u8]) -> Result<View<'_>, Refusal>
     ensures { Checked M.Measure.meaning bytes.now result }
 {
-    let Some((view, rest)) = first_file::<M>(bytes) else {
-        return Err(Refusal::FileForm);
-    };
-    if is_end(rest) {
+    let (view, rest) = first_file::<M>(bytes).ok_or(Refusal::FileForm)?;
+    if rest.is_empty() {
         Ok(view)
     } else {
         Err(Refusal::FileForm)

@@ -1,6 +1,5 @@
 // The columns of a file, passed over one by one.
-ghost use Rattle.std.specs.Prelude.{◌≡◌, ◌≤◌, None};
-ghost use Rattle.measures.specs.Values.{most_rows};
+ghost use Rattle.std.specs.Prelude.{◌≡◌, ◌≤◌, None, IfSome};
 ghost use Rattle.readers.specs.Readers.{after};
 ghost use Rattle.readers.specs.Seen.{seen, passed};
 ghost use Rattle.hall_file.specs.Written.{width as width_of};
@@ -14,8 +13,8 @@ use readers::take_u16;
 
 // The shape at the front of bytes, and the bytes after it.
 pub(crate) fn take_shape<M: Measure>(fields: u8, bytes: &[u8]) -> Option<(ColumnShape<M>, &[u8])>
-    requires { fields ≤ 8 }
-    ensures { seen result ≡ shape_reader M.Measure.meaning M.Measure.found fields bytes.now }
+    ensures read { seen result ≡ shape_reader M.Measure.meaning M.Measure.found fields bytes.now }
+    ensures narrow { IfSome result (λ q. width_of q.0 ≤ 4) }
 {
     let [kind, measured, mask, rest @ ..] = bytes else {
         return None;
@@ -33,28 +32,25 @@ pub(crate) fn take_shape<M: Measure>(fields: u8, bytes: &[u8]) -> Option<(Column
     Some((shape, rest))
 }
 
-// The bytes after so many groups that have all rows together.
+// The bytes after so many groups that have all rows together. That a key has four values at most is a premise
+// here and in `take_cell`, and no type: a shape is public, and any mask can stand in it.
 fn take_groups<'a, M: Measure>(
     shape: &ColumnShape<M>,
     all: u32,
     count: u16,
     bytes: &'a [u8],
 ) -> Option<&'a [u8]>
-    requires wide { width_of shape.now ≤ 4 }
-    requires few { all ≤ most_rows }
-    ensures { passed result ≡ after (groups_reader M.Measure.meaning shape.now count None all bytes.now) }
+    ensures { width_of shape.now ≤ 4 → passed result ≡ after (groups_reader M.Measure.meaning shape.now count None all bytes.now) }
 {
     let mut rest = bytes;
     let mut last = None;
     let mut rows_left = all;
-    let mut groups_left = count;
-    while groups_left > 0 {
+    for _ in 0..count {
         let (cell, more) = take_cell(0, shape, rows_left, rest)?;
         if !is_after(last, &cell.id.key) {
             return None;
         }
         rows_left -= cell.rows;
-        groups_left -= 1;
         last = Some(cell.id.key);
         rest = more;
     }
@@ -62,8 +58,6 @@ fn take_groups<'a, M: Measure>(
 }
 
 fn take_column<M: Measure>(head: Head, bytes: &[u8]) -> Option<&[u8]>
-    requires fields { head.fields ≤ 8 }
-    requires rows { head.rows ≤ most_rows }
     ensures { passed result ≡ after (column_reader M.Measure.meaning M.Measure.found head.fields head.rows bytes.now) }
 {
     let (shape, rest) = take_shape::<M>(head.fields, bytes)?;
@@ -73,15 +67,11 @@ fn take_column<M: Measure>(head: Head, bytes: &[u8]) -> Option<&[u8]>
 
 // The bytes after the columns of a head.
 pub(crate) fn take_columns<M: Measure>(head: Head, bytes: &[u8]) -> Option<&[u8]>
-    requires fields { head.fields ≤ 8 }
-    requires rows { head.rows ≤ most_rows }
     ensures { passed result ≡ after (columns_reader M.Measure.meaning M.Measure.found head bytes.now) }
 {
     let mut rest = bytes;
-    let mut columns_left = head.columns;
-    while columns_left > 0 {
+    for _ in 0..head.columns {
         rest = take_column::<M>(head, rest)?;
-        columns_left -= 1;
     }
     Some(rest)
 }

@@ -10,28 +10,11 @@ use crate::view::{Columns, View};
 use measures::measure::Measure;
 use text::refusal::Refusal;
 
-fn same_measured(a: Option<u8>, b: Option<u8>) -> bool
-    ensures { Decides result (a ≡ b) }
-{
-    match (a, b) {
-        (None, None) => true,
-        (Some(a), Some(b)) => a == b,
-        (None, Some(_)) => false,
-        (Some(_), None) => false,
-    }
-}
-
 // Measures are told apart by their kinds.
 fn same_shape<M: Measure>(a: &ColumnShape<M>, b: &ColumnShape<M>) -> bool
     ensures { Decides result (a.now ≡ b.now) }
 {
-    if a.measure.kind() != b.measure.kind() {
-        return false;
-    }
-    if !same_measured(a.measured, b.measured) {
-        return false;
-    }
-    a.mask == b.mask
+    a.measure.kind() == b.measure.kind() && a.measured == b.measured && a.mask == b.mask
 }
 
 impl<'a> Columns<'a> {
@@ -58,10 +41,7 @@ impl<'a> View<'a> {
     pub fn has_shape<M: Measure>(self, fields: u8, shapes: &[ColumnShape<M>]) -> bool
         ensures { (f : Content M M.Value) → Good M.Measure.meaning f → Shows M.Measure.meaning f self.entry → Decides result (shape_of f ≡ record { fields = fields; columns = shapes.now }) }
     {
-        if self.head.fields != fields {
-            return false;
-        }
-        self.columns::<M>().have_shapes(shapes)
+        self.head.fields == fields && self.columns::<M>().have_shapes(shapes)
     }
 }
 
@@ -74,10 +54,7 @@ pub fn check_shape<'a, M: Measure>(
 ) -> Result<View<'a>, Refusal>
     ensures { CheckedShape M.Measure.meaning (record { fields = fields; columns = shapes.now }) bytes.now result }
 {
-    let view = match check::<M>(bytes) {
-        Ok(view) => view,
-        Err(refusal) => return Err(refusal),
-    };
+    let view = check::<M>(bytes)?;
     if view.has_shape(fields, shapes) {
         Ok(view)
     } else {

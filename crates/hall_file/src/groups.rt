@@ -1,6 +1,5 @@
 // One group of a column.
-ghost use Rattle.std.specs.Prelude.{◌≡◌, ◌≤◌};
-ghost use Rattle.std.specs.Ordering.{is_lt};
+ghost use Rattle.std.specs.Prelude.{◌≡◌, ◌≤◌, IfSome};
 ghost use Rattle.cells.specs.Order.{key_order};
 ghost use Rattle.cells.specs.Columns.{cell_of};
 ghost use Rattle.readers.specs.Readers.{changed};
@@ -9,7 +8,7 @@ ghost use Rattle.hall_file.specs.Written.{width as width_of};
 ghost use Rattle.hall_file.specs.Rules.{is_after as comes_after};
 ghost use Rattle.hall_file.specs.Reading.{int, key as key_reader, fits as fit, rows as rows_reader, value as value_reader, group as group_reader};
 
-use crate::shape::ColumnShape;
+use crate::shape::{ColumnShape, key_width};
 use cells::cell::Cell;
 use cells::id::GroupId;
 use measures::measure::Measure;
@@ -30,28 +29,19 @@ fn take_int(bytes: &[u8]) -> Option<(i32, &[u8])>
 }
 
 // A key of so many fields; its other places are 0.
-fn take_key(width: u32, bytes: &[u8]) -> Option<([i32; 4], &[u8])>
+fn take_key(width: usize, bytes: &[u8]) -> Option<([i32; 4], &[u8])>
     requires { width ≤ 4 }
     ensures { seen result ≡ key_reader width bytes.now }
 {
     let mut key = [0; 4];
     let mut rest = bytes;
-    for i in 0..width as usize {
+    // by index: a loop over `iter_mut().take(width)` tells its proof nothing of the values that it wrote
+    for i in 0..width {
         let (value, more) = take_int(rest)?;
         key[i] = value;
         rest = more;
     }
     Some((key, rest))
-}
-
-fn is_less(order: Ordering) -> bool
-    ensures { result ≡ is_lt order }
-{
-    match order {
-        Ordering::Less => true,
-        Ordering::Equal => false,
-        Ordering::Greater => false,
-    }
 }
 
 // Field by field, as signed numbers.
@@ -67,7 +57,7 @@ pub(crate) fn is_after(last: Option<[i32; 4]>, key: &[i32; 4]) -> bool
 {
     match last {
         None => true,
-        Some(last) => is_less(key_order(&last, key)),
+        Some(last) => key_order(&last, key).is_lt(),
     }
 }
 
@@ -75,11 +65,12 @@ pub(crate) fn is_after(last: Option<[i32; 4]>, key: &[i32; 4]) -> bool
 fn fits(left: u32, rows: u32) -> bool
     ensures { result ≡ fit left rows }
 {
-    1 <= rows && rows <= left
+    (1..=left).contains(&rows)
 }
 
 fn take_rows(left: u32, bytes: &[u8]) -> Option<(u32, &[u8])>
-    ensures { seen result ≡ rows_reader left bytes.now }
+    ensures read { seen result ≡ rows_reader left bytes.now }
+    ensures few { IfSome result (λ q. q.0 ≤ left) }
 {
     let (rows, rest) = take_u32(bytes)?;
     if fits(left, rows) {
@@ -112,10 +103,10 @@ pub(crate) fn take_cell<'a, M: Measure>(
     left: u32,
     bytes: &'a [u8],
 ) -> Option<(Cell<M::Value>, &'a [u8])>
-    requires { width_of shape.now ≤ 4 }
-    ensures { seen result ≡ changed (cell_of column) (group_reader M.Measure.meaning shape.now left bytes.now) }
+    ensures few { IfSome result (λ q. q.0.rows ≤ left) }
+    ensures read { width_of shape.now ≤ 4 → seen result ≡ changed (cell_of column) (group_reader M.Measure.meaning shape.now left bytes.now) }
 {
-    let (key, rest) = take_key(shape.mask.count_ones(), bytes)?;
+    let (key, rest) = take_key(key_width(shape.mask), bytes)?;
     let (rows, rest) = take_rows(left, rest)?;
     let (value, rest) = take_value(&shape.measure, rows, rest)?;
     Some((

@@ -3,7 +3,6 @@ ghost use Rattle.std.specs.Prelude.{◌≡◌, ◌+◌, ◌*◌, ◌==◌, nat_l
 ghost use Rattle.measures.specs.Values.{most_rows};
 ghost use Rattle.readers.specs.Seen.{seen};
 ghost use Rattle.hall_file.specs.Written.{version};
-ghost use Rattle.hall_file.specs.Rules.{most_fields, most_columns};
 ghost use Rattle.hall_file.specs.Reading.{one_to, head as head_reader};
 
 use measures::values::MOST_ROWS;
@@ -31,16 +30,11 @@ fn is_version(low: u8, high: u8) -> bool
     u16::from_le_bytes([low, high]) == VERSION
 }
 
-fn is_field_count(fields: u8) -> bool
-    ensures { result ≡ one_to most_fields fields }
+// Whether a number is from 1 to the most.
+fn is_one_to(most: u8, n: u8) -> bool
+    ensures { result ≡ one_to most n }
 {
-    1 <= fields && fields <= MOST_FIELDS
-}
-
-fn is_column_count(columns: u8) -> bool
-    ensures { result ≡ one_to most_columns columns }
-{
-    1 <= columns && columns <= MOST_COLUMNS
+    (1..=most).contains(&n)
 }
 
 fn is_row_count(rows: u32) -> bool
@@ -73,10 +67,10 @@ pub(crate) fn take_head(bytes: &[u8]) -> Option<(Head, &[u8])>
     if !is_version(*low, *high) {
         return None;
     }
-    if !is_field_count(*fields) {
+    if !is_one_to(MOST_FIELDS, *fields) {
         return None;
     }
-    if !is_column_count(*columns) {
+    if !is_one_to(MOST_COLUMNS, *columns) {
         return None;
     }
     let rows = u32::from_le_bytes([*n0, *n1, *n2, *n3]);

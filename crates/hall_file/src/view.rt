@@ -7,7 +7,7 @@ ghost use Rattle.hall_file.specs.Views.{Shows, ShowsColumns, ShowsGroups, FirstC
 
 use crate::columns::take_shape;
 use crate::groups::take_cell;
-use crate::head::{Head, MOST_FIELDS};
+use crate::head::Head;
 use crate::shape::{ColumnShape, group_length};
 use cells::cell::Cell;
 use measures::measure::Measure;
@@ -67,25 +67,20 @@ impl<'a> Columns<'a> {
         if self.number >= self.head.columns {
             return None;
         }
-        if self.head.fields > MOST_FIELDS {
-            return None;
-        }
         let (shape, rest) = take_shape::<M>(self.head.fields, self.bytes)?;
         let (left, rest) = take_u16(rest)?;
-        let length = left as usize * group_length(shape.mask);
-        if length > rest.len() {
-            return None;
-        }
+        let length = usize::from(left) * group_length(shape.mask);
+        let (bytes, rest) = rest.split_at_checked(length)?;
         let groups = Groups {
             number: self.number,
             shape,
             left,
-            bytes: &rest[0..length],
+            bytes,
         };
         let others = Columns {
             head: self.head,
             number: self.number + 1,
-            bytes: &rest[length..],
+            bytes: rest,
         };
         Some((groups, others))
     }
@@ -111,9 +106,6 @@ impl<'a, M: Measure> Groups<'a, M> {
         ensures { (s : ColumnShape M) (gs : List (Group M.Value)) → ShowsGroups M.Measure.meaning s gs self.entry → FirstGroup M.Measure.meaning s gs self.entry.number result }
     {
         if self.left == 0 {
-            return None;
-        }
-        if self.shape.mask.count_ones() > 4 {
             return None;
         }
         let (cell, rest) = take_cell(self.number, &self.shape, MOST_ROWS, self.bytes)?;

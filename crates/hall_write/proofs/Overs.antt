@@ -1,10 +1,11 @@
 -- Writing over a buffer, one part after another.
-use Rattle.std.proofs.Common.{◌≡◌, ℕ, ◌+◌, ◌-◌, ◌/◌, ◌%◌, ◌≤◌, List, [], ◌∷◌, ◌++◌, length, take, drop, sym, refl, ap, ◌∙◌, arith}
+use Rattle.std.proofs.Common.{◌≡◌, ℕ, ◌+◌, ◌-◌, ◌/◌, ◌%◌, ◌≤◌, List, [], ◌∷◌, ◌++◌, length, take, drop, sym, refl, ap, ◌∙◌, subst, arith}
 use borrow.Rule.Slice.PartMut.{put_mid}
 use Rattle.std.proofs.lemmas.List.{append_assoc, append-nil, length-append, length-drop, length-take-le, take_at, drop_at, drop-drop, take-append-drop, take_all}
 use Rattle.std.proofs.lemmas.Slice.{put_mid-paste}
 use Rattle.measures.specs.Bytes.{bytes_of}
-use Rattle.hall_write.specs.Over.{over}
+use Rattle.hall_write.specs.declared.put.Out.{Out}
+use Rattle.hall_write.specs.Over.{over, HasRoom, Puts}
 
 -- nothing is written
 pub over_none : (at : ℕ) (old : List ℕ) → over at [] old ≡ old
@@ -62,55 +63,62 @@ over_front bs old = ap (λ n. bs ++ drop n old) zero_on
     zero_on : 0 + length bs ≡ length bs
     zero_on = omega arith
 
--- a buffer into which bs were written from at on
-pub record Wrote (at : ℕ) (old : List ℕ) (bs : List ℕ) (end : ℕ) (new : List ℕ) : Type 0 where
-  pub is : new ≡ over at bs old
-  pub ends : end ≡ at + length bs
+-- nothing was put
+pub puts_none : (out : Out) → Puts [] out out
+puts_none out = record { same = refl; is = sym (over_none out.end out.buffer.now); ends = omega arith }
 
-pub wrote_none : (at : ℕ) (old : List ℕ) → Wrote at old [] at old
-wrote_none at old = record { is = sym (over_none at old); ends = omega arith }
-
-pub wrote_more : {at : ℕ} {old : List ℕ} {end : ℕ} {new : List ℕ} (bs more : List ℕ) (end' : ℕ) (new' : List ℕ) → Wrote at old bs end new → new' ≡ over end more new → end' ≡ end + length more → at + length bs + length more ≤ length old → Wrote at old (bs ++ more) end' new'
-wrote_more {at} {old} {end} {new} bs more end' new' w e f h =
-    let a = w.ends in
-    let l = length-append bs more in
+-- one part and the next
+pub puts_more : {xs ys : List ℕ} {a b c : Out} → Puts xs a b → Puts ys b c → HasRoom (xs ++ ys) a → Puts (xs ++ ys) a c
+puts_more {xs} {ys} {a} {b} {c} p q room =
+    let l = length-append xs ys in
+    let e = p.ends in
+    let f = q.ends in
     record {
-      is = e ∙ ap (over end more) w.is ∙ ap (λ n. over n more (over at bs old)) a ∙ over_over at bs more old h;
+      same = q.same ∙ p.same;
+      is = q.is ∙ ap (over b.end ys) p.is ∙ ap (λ n. over n ys (over a.end xs a.buffer.now)) e ∙ over_over a.end xs ys a.buffer.now (omega arith);
       ends = omega arith;
     }
 
--- of the whole some was written, and the rest is left
-pub record Doing (whole rest : List ℕ) (at : ℕ) (old : List ℕ) (end : ℕ) (new : List ℕ) : Type 0 where
-  pub done : List ℕ
-  pub wrote : Wrote at old done end new
-  pub adds : done ++ rest ≡ whole
-
-pub doing_all : (whole : List ℕ) (at : ℕ) (old : List ℕ) → Doing whole whole at old at old
-doing_all whole at old = record { done = []; wrote = wrote_none at old; adds = refl }
-
--- there is room for the next part
-pub doing_room : {whole rest : List ℕ} {at : ℕ} {old : List ℕ} {end : ℕ} {new : List ℕ} → Doing whole rest at old end new → (part rest' : List ℕ) → rest ≡ part ++ rest' → at + length whole ≤ length old → end + length part ≤ length new
-doing_room {whole} {rest} {at} {old} {end} {new} d part rest' e h =
-    let a = ap length (sym d.adds) ∙ length-append d.done rest in
-    let b = ap length e ∙ length-append part rest' in
-    let c = d.wrote.ends in
-    let l = ap length d.wrote.is ∙ length_over at d.done old (omega arith) in
+-- after one part there is room for the next
+pub room_more : {xs : List ℕ} (ys : List ℕ) {a b : Out} → Puts xs a b → HasRoom (xs ++ ys) a → HasRoom ys b
+room_more {xs} ys {a} {b} p room =
+    let l = length-append xs ys in
+    let e = p.ends in
+    let n = ap length p.is ∙ length_over a.end xs a.buffer.now (omega arith) in
     omega arith
 
-pub doing_more : {whole rest : List ℕ} {at : ℕ} {old : List ℕ} {end : ℕ} {new : List ℕ} → Doing whole rest at old end new → (part rest' : List ℕ) → rest ≡ part ++ rest' → at + length whole ≤ length old → (end' : ℕ) (new' : List ℕ) → new' ≡ over end part new → end' ≡ end + length part → Doing whole rest' at old end' new'
-doing_more {whole} {rest} {at} {old} {end} {new} d part rest' e h end' new' is ends =
-    let a = ap length (sym d.adds) ∙ length-append d.done rest in
-    let b = ap length e ∙ length-append part rest' in
+pub room_first : (xs ys : List ℕ) (a : Out) → HasRoom (xs ++ ys) a → HasRoom xs a
+room_first xs ys a room = let l = length-append xs ys in omega arith
+
+-- the same bytes, said otherwise
+pub puts_as : {xs ys : List ℕ} {a b : Out} → xs ≡ ys → Puts xs a b → Puts ys a b
+puts_as {xs} {ys} {a} {b} e p = subst (λ l. Puts l a b) e p
+
+-- of the whole some was put, and the rest is left
+pub record Doing (whole rest : List ℕ) (start out : Out) : Type 0 where
+  pub done : List ℕ
+  pub puts : Puts done start out
+  pub adds : done ++ rest ≡ whole
+
+pub doing_all : (whole : List ℕ) (out : Out) → Doing whole whole out out
+doing_all whole out = record { done = []; puts = puts_none out; adds = refl }
+
+-- there is room for the next part
+pub doing_room : {whole rest : List ℕ} {start out : Out} → Doing whole rest start out → (part rest' : List ℕ) → rest ≡ part ++ rest' → HasRoom whole start → HasRoom part out
+doing_room {whole} {rest} {start} {out} d part rest' e room =
+    room_first part rest' out (subst (λ l. HasRoom l out) e (room_more rest d.puts (subst (λ l. HasRoom l start) (sym d.adds) room)))
+
+pub doing_more : {whole rest : List ℕ} {start out : Out} → Doing whole rest start out → (part rest' : List ℕ) → rest ≡ part ++ rest' → HasRoom whole start → (next : Out) → Puts part out next → Doing whole rest' start next
+doing_more {whole} {rest} {start} {out} d part rest' e room next p =
+    let adds : (d.done ++ part) ++ rest' ≡ whole = append_assoc d.done part rest' ∙ ap (λ l. d.done ++ l) (sym e) ∙ d.adds in
     record {
       done = d.done ++ part;
-      wrote = wrote_more d.done part end' new' d.wrote is ends (omega arith);
-      adds = append_assoc d.done part rest' ∙ ap (λ l. d.done ++ l) (sym e) ∙ d.adds;
+      puts = puts_more d.puts p (room_first (d.done ++ part) rest' start (subst (λ l. HasRoom l start) (sym adds) room));
+      adds = adds;
     }
 
-pub doing_end : {whole rest : List ℕ} {at : ℕ} {old : List ℕ} {end : ℕ} {new : List ℕ} → Doing whole rest at old end new → rest ≡ [] → (new ≡ over at whole old) × (end ≡ at + length whole)
-doing_end {whole} {rest} {at} {old} {end} {new} d e =
-    let all : d.done ≡ whole = sym (append-nil d.done) ∙ ap (λ l. d.done ++ l) (sym e) ∙ d.adds in
-    (d.wrote.is ∙ ap (λ l. over at l old) all, d.wrote.ends ∙ ap (λ l. at + length l) all)
+pub doing_end : {whole rest : List ℕ} {start out : Out} → Doing whole rest start out → rest ≡ [] → Puts whole start out
+doing_end {whole} {rest} {start} {out} d e = puts_as (sym (append-nil d.done) ∙ ap (λ l. d.done ++ l) (sym e) ∙ d.adds) d.puts
 
 -- four bytes as the code gives them
 pub le_four : (n : ℕ) → (n % 256) ∷ (n / 256 % 256) ∷ (n / 65536 % 256) ∷ (n / 16777216 % 256) ∷ [] ≡ bytes_of 4 n

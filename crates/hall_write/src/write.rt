@@ -1,28 +1,21 @@
 // The whole file.
-ghost use Rattle.std.specs.Prelude.{◌≡◌, ◌+◌, ◌≤◌, length};
 ghost use Rattle.hall_file.specs.Written.{columns_bytes, file_bytes};
-ghost use Rattle.hall_write.specs.Over.{over};
+ghost use Rattle.hall_write.specs.Over.{HasRoom, Puts};
 ghost use Rattle.hall_write.specs.Laid.{laid, content_of, WrittenInto};
 
-use crate::length::{group_count, length_within};
-use crate::put::{head_bytes, put, put_column};
+use crate::length::length_within;
+use crate::put::{Out, head_bytes, put, put_column};
 use cells::cell::Cell;
 use hall_file::shape::ColumnShape;
 use measures::measure::Measure;
 use text::refusal::Refusal;
 
-fn put_columns<M: Measure>(
-    out: &mut [u8],
-    at: usize,
-    shapes: &[ColumnShape<M>],
-    cells: &[Cell<M::Value>],
-)
-    requires { at + length (columns_bytes M.Measure.meaning (laid 0 shapes.now cells.now)) ≤ length out.old }
-    ensures { out.new ≡ over at (columns_bytes M.Measure.meaning (laid 0 shapes.now cells.now)) out.old }
+fn put_columns<M: Measure>(out: &mut Out, shapes: &[ColumnShape<M>], cells: &[Cell<M::Value>])
+    requires { HasRoom (columns_bytes M.Measure.meaning (laid 0 shapes.now cells.now)) out.old }
+    ensures { Puts (columns_bytes M.Measure.meaning (laid 0 shapes.now cells.now)) out.old out.new }
 {
-    let mut end = at;
-    for i in 0..shapes.len() {
-        end = put_column(out, end, i, group_count(cells, i), &shapes[i], cells);
+    for (number, shape) in shapes.iter().enumerate() {
+        put_column(out, number, shape, cells);
     }
 }
 
@@ -40,7 +33,8 @@ pub fn write<M: Measure>(
     let Some(length) = length_within(shapes, cells, buffer.len()) else {
         return Err(Refusal::BufferTooShort);
     };
-    let end = put(buffer, 0, &head_bytes(fields, shapes.len(), rows));
-    put_columns(buffer, end, shapes, cells);
+    let mut out = Out { buffer, end: 0 };
+    put(&mut out, &head_bytes(fields, shapes.len(), rows));
+    put_columns(&mut out, shapes, cells);
     Ok(length)
 }

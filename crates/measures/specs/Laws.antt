@@ -168,14 +168,17 @@ extreme_eight : (a : Option ℤ) → EightBytes (extreme_bytes a)
 extreme_eight None = bytes_of_eight 0
 extreme_eight (Some a) = bytes_of_eight (of_z w64 a)
 
+pub extreme_formed : (kind : ℕ) (pick : ℤ → ℤ → ℤ) → kind < 256 → Formed (extreme kind pick)
+extreme_formed kind pick h = record { kind_is_a_byte = h; written_in_eight_bytes = extreme_eight }
+
 pub least_keeps : Properties least
 least_keeps = extreme_keeps 3 int_min (λ a b c. omega (arith, ints, clamps)) (λ a b. omega (arith, ints, clamps)) (λ a b p q. omega (arith, ints, clamps))
 
 pub least_formed : Formed least
-least_formed = record { kind_is_a_byte = omega arith; written_in_eight_bytes = extreme_eight }
+least_formed = extreme_formed 3 int_min (omega arith)
 
 pub greatest_keeps : Properties greatest
 greatest_keeps = extreme_keeps 4 int_max (λ a b c. omega (arith, ints, clamps)) (λ a b. omega (arith, ints, clamps)) (λ a b p q. omega (arith, ints, clamps))
 
 pub greatest_formed : Formed greatest
-greatest_formed = record { kind_is_a_byte = omega arith; written_in_eight_bytes = extreme_eight }
+greatest_formed = extreme_formed 4 int_max (omega arith)

@@ -1,74 +1,37 @@
 // Kind 3: the least value.
-ghost use Rattle.measures.specs.Kinds.{least, only};
-ghost use Rattle.measures.specs.Laws.{least_keeps, least_formed};
-ghost use Rattle.std.proofs.Common.{rules};
+ghost use Rattle.std.specs.Int.{int_min};
+ghost use Rattle.std.proofs.Common.{arith};
+ghost use Rattle.std.proofs.lemmas.Int.{clamps, ints};
 
-use crate::answer::Answer;
-use crate::extreme::{extreme_answer, extreme_bytes, extreme_read, is_extreme_of};
-use crate::measure::Measure;
-use crate::sum::measured;
+use crate::extreme::{Choice, Extreme};
+use std::marker::PhantomData;
 
+// The lower of two values.
 #[derive(Clone, Copy)]
-pub struct Least;
+pub struct Lower;
 
-impl Measure for Least {
-    type Value = Option<i32>;
+impl Choice for Lower {
+    const KIND: u8 = 3;
 
-    type Answer = Answer;
+    ghost KIND = { 3 };
 
-    ghost meaning = { λ _. least };
+    ghost kept = { int_min };
 
-    ghost found = { only 3 (record {}) };
+    ghost kind_is_a_byte = { omega arith };
 
-    ghost keeps = { λ _. least_keeps };
+    ghost associates = { λ a b c. omega (arith, ints, clamps) };
 
-    ghost formed = { λ _. least_formed };
+    ghost commutes = { λ a b. omega (arith, ints, clamps) };
 
-    ghost found_by_its_kind = { Prim.search rules };
+    ghost keeps_row_values = { λ a b p q. omega (arith, ints, clamps) };
 
-    ghost has_the_kind_it_is_found_by = { Prim.search rules };
-
-    fn of_kind(kind: u8) -> Option<Least> {
-        if kind == 3 { Some(Least) } else { None }
-    }
-
-    fn kind(&self) -> u8 {
-        3
-    }
-
-    fn fields(&self) -> usize {
-        1
-    }
-
-    fn none(&self) -> Option<i32> {
-        None
-    }
-
-    fn one(&self, values: &[i32]) -> Option<i32> {
-        Some(measured(values))
-    }
-
-    fn join(&self, a: Option<i32>, b: Option<i32>) -> Option<i32> {
-        match (a, b) {
-            (None, _) => b,
-            (Some(_), None) => a,
-            (Some(x), Some(y)) => Some(x.min(y)),
-        }
-    }
-
-    fn possible(&self, a: Option<i32>, rows: u32) -> bool {
-        is_extreme_of(a, rows)
-    }
-
-    fn answer(&self, a: Option<i32>, _rows: u32) -> Answer {
-        extreme_answer(a)
-    }
-
-    fn write(&self, a: Option<i32>) -> [u8; 8] {
-        extreme_bytes(a)
-    }
-
-    fn read(&self, bytes: &[u8; 8]) -> Option<Option<i32>> {
-        extreme_read(bytes)
+    fn choose(a: i32, b: i32) -> i32 {
+        a.min(b)
     }
 }
+
+pub type Least = Extreme<Lower>;
+
+pub const LEAST: Least = Extreme {
+    choice: PhantomData,
+};

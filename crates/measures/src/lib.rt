@@ -2,10 +2,11 @@
 // and the one that picks a kind at run time.
 #![tactic(auto)]
 
+pub mod adding;
 pub mod answer;
 mod bytes;
 pub mod count;
-mod extreme;
+pub mod extreme;
 pub mod greatest;
 pub mod least;
 pub mod mean;

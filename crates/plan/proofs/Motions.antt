@@ -8,9 +8,11 @@ use Rattle.words.specs.Cutting.{next, later, none_left, to_come, here}
 use Rattle.words.specs.Tables.{place}
 use Rattle.words.specs.declared.cursor.Words.{Words}
 use Rattle.conditions.specs.Machine.{Fault, form, taken, limit, refusal}
-use Rattle.plan.specs.Lines.{word, declared, ends_line}
+use Rattle.plan.specs.Lines.{word, declared, telling, wrong_of, ends_line}
+use Rattle.plan.specs.declared.words_of_plan.NoName.{NoName}
+use Rattle.plan.specs.declared.words_of_plan.NoName.TheVariants.{Held, OtherForm}
 use Rattle.plan.specs.Drafts.{Draft}
-use Rattle.plan.specs.Machine.{Stage, Motion, on, halt, enter, some, naming, naming_line, step, finish, run}
+use Rattle.plan.specs.Machine.{Stage, Motion, on, halt, enter, admit, some, naming, naming_line, step, finish, run}
 use Rattle.plan.specs.Promises.{rest, pick, onto, Leads, LineOfNames}
 
 -- the next word of a reader
@@ -39,6 +41,10 @@ moves w st f c = all (to_come w)
     all [] = f (here w) ∙ sym (ap (pick (here w) []) c)
     all (x ∷ xs) = run_some st (here w) (x ∷ xs) refl
 
+-- the same where the code found what the next word says
+pub moves_by : {X : Type 0} (says : Lexeme → X) (does : X → Motion) (v : Words) (st : Stage) (x : Lexeme) (k : X) → ((at : Spot) → finish st at ≡ Err (refusal form at)) → does (says cut) ≡ halt form → ((y : Lexeme) → step st y ≡ does (says y)) → k ≡ says x → x ≡ next_of v → rest v st ≡ onto v (does k)
+moves_by says does v st x k f c s e p = moves v st f (s cut ∙ c) ∙ ap (onto v) (s (next_of v) ∙ ap does (sym (e ∙ ap says p)))
+
 -- a reader one word on
 pub advanced : (v w : Words) (st : Stage) → to_come w ≡ later (to_come v) → here w ≡ past (next_of v) (here v) → onto v (on st) ≡ rest w st
 unfolding rest onto
@@ -63,8 +69,13 @@ later_shorter (x ∷ xs) = omega arith
 
 -- a word that is a name is there
 pub name_falls : (upper : Bool) (xs : List Lexeme) (w : List ℕ) → word w ≡ declared upper (next xs) → length (later xs) < length xs
-name_falls upper [] w h = let z : ◌≡◌ {A = ℕ} 0 1 = cc in absurd (omega arith)
+name_falls upper [] w h = cc
 name_falls upper (x ∷ xs) w h = omega arith
+
+-- a word that is no name is refused for what is wrong with it
+pub no_name_halts : (st : List ℕ → Stage) (ns : List (List ℕ)) (most : ℕ) (e : NoName) → admit st ns most (telling (Err e)) ≡ halt (wrong_of e)
+no_name_halts st ns most Held = refl
+no_name_halts st ns most OtherForm = refl
 
 -- a name's way into a list of names
 module _ (ns : List (List ℕ)) (w : List ℕ) (most : ℕ) (st : Stage) where

@@ -1,18 +1,18 @@
 -- A plan from its text, line by line. Assumes nothing.
-use Rattle.std.proofs.Common.{◌≡◌, ℕ, ◌<◌, ◌≤◌, true, false, ltb, List, [], ◌∷◌, length, take, Ok, Err, Result, sym, refl, ap, ◌∙◌, arith}
+use Rattle.std.proofs.Common.{◌≡◌, ℕ, ◌<◌, ◌≤◌, true, false, ltb, List, [], ◌∷◌, length, take, Some, Ok, Err, Option, Result, sym, refl, ap, ◌∙◌, subst, arith}
 use Rattle.std.proofs.lemmas.List.{take_all}
 use Rattle.std.proofs.lemmas.Bool.{true≢false, cond-true, cond-false, lt-ltb, le-ltb}
 use Rattle.text.specs.declared.refusal.Refusal.{Refusal}
 use Rattle.text.specs.declared.refusal.Refusal.TheVariants.{PlanLimit}
 use Rattle.words.specs.Lexemes.{Lexeme}
-use Rattle.words.specs.Spots.{Spot, spot}
-use Rattle.words.specs.Cutting.{none_left, lexemes, to_come, here}
+use Rattle.words.specs.Spots.{Spot, spot, past}
+use Rattle.words.specs.Cutting.{later, none_left, lexemes, to_come, here}
 use Rattle.words.specs.Tables.{texts}
 use Rattle.words.specs.declared.cursor.Words.{Words}
 use Rattle.conditions.specs.Machine.{form, refusal}
 use Rattle.plan.specs.Lines.{leading, declared}
 use Rattle.plan.specs.Drafts.{Entry, Draft, draft_of, columns_of}
-use Rattle.plan.specs.Machine.{Stage, on, halt, start, rows, second, bases, line, first_line, second_line, column_name, whole, finish, run, plan_of}
+use Rattle.plan.specs.Machine.{Stage, halt, start, rows, second, bases, line, first_line, second_line, column_name, whole, finish, run, plan_of}
 use Rattle.plan.specs.Promises.{rest, onto, LineOfNames, meant, awaited, Unread}
 use Rattle.any_measure.specs.declared.any.AnyMeasure.{AnyMeasure}
 use Rattle.plan.specs.declared.plan.Plan.{Plan}
@@ -20,7 +20,7 @@ use Rattle.plan.specs.declared.reading.Awaits.{Awaits}
 use Rattle.plan.specs.declared.reading.Awaits.TheVariants.{Rows, Base, Columns}
 use Rattle.plan.specs.declared.words_of_plan.Leading.{Leading}
 use Rattle.plan.specs.declared.words_of_plan.Leading.TheVariants as leads
-use Rattle.plan.proofs.Motions.{next_of, moves, moves_some, halted}
+use Rattle.plan.proofs.Motions.{next_of, moves_by, moves_some, advanced, halted}
 
 -- too long a text
 pub too_long : (text : List ℕ) → 4096 < length text → Err (PlanLimit 0 0) ≡ plan_of text
@@ -44,24 +44,34 @@ pub base_line : (rs : List (List ℕ)) → LineOfNames (bases rs) (λ ms. line (
 base_line rs = record { steps = λ ns x. refl; mid = λ ns at. refl }
 
 -- the first words of the two lines
-module _ (v : Words) (l : Leading) (is : l ≡ leading (next_of v)) where
-  at_start : rest v start ≡ onto v (first_line l)
-  at_start = moves v start (λ at. refl) refl ∙ ap (λ k. onto v (first_line k)) (sym is)
+at_start : (v : Words) (l : Option Leading) → l ≡ leading (next_of v) → rest v start ≡ onto v (first_line l)
+at_start v l is = moves_by leading first_line v start _ l (λ at. refl) refl (λ y. refl) is refl
 
-  at_second : (rs : List (List ℕ)) → rest v (second rs) ≡ onto v (second_line rs l)
-  at_second rs = moves v (second rs) (λ at. refl) refl ∙ ap (λ k. onto v (second_line rs k)) (sym is)
+at_second : (v : Words) (rs : List (List ℕ)) (l : Option Leading) → l ≡ leading (next_of v) → rest v (second rs) ≡ onto v (second_line rs l)
+at_second v rs l is = moves_by leading (second_line rs) v (second rs) _ l (λ at. refl) refl (λ y. refl) is refl
 
-  pub rows_begin : (w : Words) → l ≡ leads.Rows → onto v (on (rows [])) ≡ rest w (rows []) → rest v start ≡ rest w (rows [])
-  rows_begin w e a = at_start ∙ ap (λ k. onto v (first_line k)) e ∙ a
+-- a reader that waits for the rows line, and reads its first word
+pub at_rows : (v w : Words) (a : Awaits) (p : Plan AnyMeasure) → a ≡ Rows → Unread a p → Some leads.Rows ≡ leading (next_of v) → to_come w ≡ later (to_come v) → here w ≡ past (next_of v) (here v) → (texts p.names.rows ≡ []) × (rest v (awaited a p) ≡ rest w (rows (texts p.names.rows)))
+at_rows v w a p e u is ws at =
+    let n = subst (λ b. Unread b p) e u in
+    (n.0, ap (λ b. rest v (awaited b p)) e ∙ at_start v (Some leads.Rows) is ∙ advanced v w (rows []) ws at ∙ ap (λ ns. rest w (rows ns)) (sym n.0))
 
-  pub base_begin : (w : Words) (rs : List (List ℕ)) → l ≡ leads.Base → onto v (on (bases rs [])) ≡ rest w (bases rs []) → rest v (second rs) ≡ rest w (bases rs [])
-  base_begin w rs e a = at_second rs ∙ ap (λ k. onto v (second_line rs k)) e ∙ a
+-- the same of the base line
+pub at_base : (v w : Words) (a : Awaits) (p : Plan AnyMeasure) → a ≡ Base → Unread a p → Some leads.Base ≡ leading (next_of v) → to_come w ≡ later (to_come v) → here w ≡ past (next_of v) (here v) → (texts p.names.base ≡ []) × (rest v (awaited a p) ≡ rest w (bases (texts p.names.rows) (texts p.names.base)))
+at_base v w a p e u is ws at =
+    let n = subst (λ b. Unread b p) e u in
+    (n.0, ap (λ b. rest v (awaited b p)) e ∙ at_second v (texts p.names.rows) (Some leads.Base) is ∙ advanced v w (bases (texts p.names.rows) []) ws at ∙ ap (λ ns. rest w (bases (texts p.names.rows) ns)) (sym n.0))
 
-  pub no_rows : (y : Refusal) → first_line l ≡ halt form → y ≡ refusal form (here v) → rest v start ≡ Err y
-  no_rows y e h = at_start ∙ ap (onto v) e ∙ halted v form y h
+-- the first word is not the one that is waited for
+abbrev pub Misplaced : Awaits → Option Leading → Type 0
+Misplaced Rows l = first_line l ≡ halt form
+Misplaced Base l = (rs : List (List ℕ)) → second_line rs l ≡ halt form
+Misplaced Columns l = ⊥
 
-  pub no_base : (rs : List (List ℕ)) (y : Refusal) → second_line rs l ≡ halt form → y ≡ refusal form (here v) → rest v (second rs) ≡ Err y
-  no_base rs y e h = at_second rs ∙ ap (onto v) e ∙ halted v form y h
+pub misplaced : (v : Words) (a : Awaits) (p : Plan AnyMeasure) (l : Option Leading) (y : Refusal) → Misplaced a l → l ≡ leading (next_of v) → y ≡ refusal form (here v) → rest v (awaited a p) ≡ Err y
+misplaced v Rows p l y m is h = at_start v l is ∙ ap (onto v) m ∙ halted v form y h
+misplaced v Base p l y m is h = at_second v (texts p.names.rows) l is ∙ ap (onto v) (m (texts p.names.rows)) ∙ halted v form y h
+misplaced v Columns p l y m is h = absurd m
 
 -- a column line
 pub column_begins : (v : Words) (d : Draft) → false ≡ none_left (to_come v) → rest v (line d) ≡ onto v (column_name d (declared false (next_of v)))

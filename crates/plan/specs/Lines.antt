@@ -1,42 +1,44 @@
 -- What the words of a plan are, outside conditions. Assumes nothing.
-use Rattle.std.specs.Prelude.{ℕ, Bool, true, false, cond, List, Some, None, Option}
+use Rattle.std.specs.Prelude.{ℕ, Bool, true, false, cond, List, Some, None, Ok, Err, Option, Result}
+use Rattle.std.specs.Borrow.{Bor}
 use Rattle.words.specs.Lexemes.{Lexeme, name, reserved, number, sign, shift, bracket, other, feed, cut}
 use Rattle.words.specs.declared.tokens.Keyword.{Keyword}
 use Rattle.words.specs.declared.tokens.Keyword.TheVariants as keywords
+use Rattle.conditions.specs.Machine.{Fault, form, taken}
 use Rattle.any_measure.specs.declared.any.AnyMeasure.{AnyMeasure}
 use Rattle.any_measure.specs.declared.any.AnyMeasure.TheVariants.{Count, Sum, Least, Greatest, Mean}
 use Rattle.plan.specs.declared.words_of_plan.Leading.{Leading}
 use Rattle.plan.specs.declared.words_of_plan.Leading.TheVariants as leads
 use Rattle.plan.specs.declared.words_of_plan.Following.{Following}
 use Rattle.plan.specs.declared.words_of_plan.Following.TheVariants as follow
-use Rattle.plan.specs.declared.words_of_plan.Declared.{Declared}
-use Rattle.plan.specs.declared.words_of_plan.Declared.TheVariants as names
+use Rattle.plan.specs.declared.words_of_plan.NoName.{NoName}
+use Rattle.plan.specs.declared.words_of_plan.NoName.TheVariants as no_names
 
 -- the keywords that begin a line
-abbrev pub leading_keyword : Keyword → Leading
-leading_keyword keywords.Rows = leads.Rows
-leading_keyword keywords.Base = leads.Base
-leading_keyword keywords.Where = leads.Neither
-leading_keyword keywords.And = leads.Neither
-leading_keyword keywords.Or = leads.Neither
-leading_keyword keywords.Not = leads.Neither
-leading_keyword keywords.Count = leads.Neither
-leading_keyword keywords.Sum = leads.Neither
-leading_keyword keywords.Least = leads.Neither
-leading_keyword keywords.Greatest = leads.Neither
-leading_keyword keywords.Mean = leads.Neither
+abbrev pub leading_keyword : Keyword → Option Leading
+leading_keyword keywords.Rows = Some leads.Rows
+leading_keyword keywords.Base = Some leads.Base
+leading_keyword keywords.Where = None
+leading_keyword keywords.And = None
+leading_keyword keywords.Or = None
+leading_keyword keywords.Not = None
+leading_keyword keywords.Count = None
+leading_keyword keywords.Sum = None
+leading_keyword keywords.Least = None
+leading_keyword keywords.Greatest = None
+leading_keyword keywords.Mean = None
 
 -- how a word begins a line
-abbrev pub leading : Lexeme → Leading
+abbrev pub leading : Lexeme → Option Leading
 leading (reserved k) = leading_keyword k
-leading (name u w) = leads.Neither
-leading (number z) = leads.Neither
-leading (sign s) = leads.Neither
-leading (shift b) = leads.Neither
-leading (bracket b) = leads.Neither
-leading other = leads.Neither
-leading feed = leads.Neither
-leading cut = leads.Neither
+leading (name u w) = None
+leading (number z) = None
+leading (sign s) = None
+leading (shift b) = None
+leading (bracket b) = None
+leading other = None
+leading feed = None
+leading cut = None
 
 -- the keywords that are measures
 abbrev pub kind_keyword : Keyword → Option AnyMeasure
@@ -73,30 +75,30 @@ takes_field Greatest = true
 takes_field Mean = true
 
 -- the keyword before a condition
-abbrev pub following_keyword : Keyword → Following
-following_keyword keywords.Where = follow.Where
-following_keyword keywords.Rows = follow.Nothing
-following_keyword keywords.Base = follow.Nothing
-following_keyword keywords.And = follow.Nothing
-following_keyword keywords.Or = follow.Nothing
-following_keyword keywords.Not = follow.Nothing
-following_keyword keywords.Count = follow.Nothing
-following_keyword keywords.Sum = follow.Nothing
-following_keyword keywords.Least = follow.Nothing
-following_keyword keywords.Greatest = follow.Nothing
-following_keyword keywords.Mean = follow.Nothing
+abbrev pub following_keyword : Keyword → Option Following
+following_keyword keywords.Where = Some follow.Where
+following_keyword keywords.Rows = None
+following_keyword keywords.Base = None
+following_keyword keywords.And = None
+following_keyword keywords.Or = None
+following_keyword keywords.Not = None
+following_keyword keywords.Count = None
+following_keyword keywords.Sum = None
+following_keyword keywords.Least = None
+following_keyword keywords.Greatest = None
+following_keyword keywords.Mean = None
 
 -- how a word follows a column's measure
-abbrev pub following : Lexeme → Following
+abbrev pub following : Lexeme → Option Following
 following (reserved k) = following_keyword k
-following feed = follow.End
-following (name u w) = follow.Nothing
-following (number z) = follow.Nothing
-following (sign s) = follow.Nothing
-following (shift b) = follow.Nothing
-following (bracket b) = follow.Nothing
-following other = follow.Nothing
-following cut = follow.Nothing
+following feed = Some follow.End
+following (name u w) = None
+following (number z) = None
+following (sign s) = None
+following (shift b) = None
+following (bracket b) = None
+following other = None
+following cut = None
 
 -- a line ends
 abbrev pub ends_line : Lexeme → Bool
@@ -136,7 +138,12 @@ declared upper feed = no_name
 declared upper cut = no_name
 
 -- what the code tells of such a word
-abbrev pub telling : Declared → Naming
-telling (names.Word t) = word t.now
-telling names.Held = held
-telling names.NoName = no_name
+abbrev pub telling : Result (Bor (List ℕ)) NoName → Naming
+telling (Ok t) = word t.now
+telling (Err no_names.Held) = held
+telling (Err no_names.OtherForm) = no_name
+
+-- what is wrong with a word that is no name, where one is to be declared
+abbrev pub wrong_of : NoName → Fault
+wrong_of no_names.Held = taken
+wrong_of no_names.OtherForm = form

@@ -45,33 +45,35 @@ abbrev pub some : List (List ℕ) → Bool
 some [] = false
 some (n ∷ ns) = true
 
+-- a word that is to be a name new among others
+abbrev pub admit : (List ℕ → Stage) → List (List ℕ) → ℕ → Naming → Motion
+admit next names most (word w) = enter names w most (next w)
+admit next names most held = halt taken
+admit next names most no_name = halt form
+
 -- a name of a line of names
 abbrev pub naming : (List (List ℕ) → Stage) → List (List ℕ) → ℕ → Naming → Motion
-naming more ns most (word w) = enter ns w most (more (ns ++ (w ∷ [])))
-naming more ns most held = halt taken
-naming more ns most no_name = halt form
+naming more ns = admit (λ w. more (ns ++ (w ∷ []))) ns
 
 -- a word of a line of names, which ends after one name at least
 abbrev pub naming_line : (List (List ℕ) → Stage) → (List (List ℕ) → Stage) → Bool → ℕ → List (List ℕ) → Lexeme → Motion
 naming_line more done upper most ns x = cond (ends_line x && some ns) (on (done ns)) (naming more ns most (declared upper x))
 
 -- the first word of the rows line
-abbrev pub first_line : Leading → Motion
-first_line leads.Rows = on (rows [])
-first_line leads.Base = halt form
-first_line leads.Neither = halt form
+abbrev pub first_line : Option Leading → Motion
+first_line (Some leads.Rows) = on (rows [])
+first_line (Some leads.Base) = halt form
+first_line None = halt form
 
 -- the first word of the base line
-abbrev pub second_line : List (List ℕ) → Leading → Motion
-second_line rs leads.Rows = halt form
-second_line rs leads.Base = on (bases rs [])
-second_line rs leads.Neither = halt form
+abbrev pub second_line : List (List ℕ) → Option Leading → Motion
+second_line rs (Some leads.Rows) = halt form
+second_line rs (Some leads.Base) = on (bases rs [])
+second_line rs None = halt form
 
 -- a column's name
 abbrev pub column_name : Draft → Naming → Motion
-column_name d (word w) = enter (column_names d.columns) w 8 (named d w)
-column_name d held = halt taken
-column_name d no_name = halt form
+column_name d = admit (named d) (column_names d.columns) 8
 
 -- after a measure
 abbrev pub after_kind : Draft → List ℕ → AnyMeasure → Stage
@@ -94,10 +96,10 @@ measured_word d n k held = halt form
 measured_word d n k no_name = halt form
 
 -- after a column's head
-abbrev pub after_head : Draft → Head → Following → Motion
-after_head d h follow.Where = on (asks d h unread (term (opened None [])))
-after_head d h follow.End = on (line (with_column d h None no_fields))
-after_head d h follow.Nothing = halt form
+abbrev pub after_head : Draft → Head → Option Following → Motion
+after_head d h (Some follow.Where) = on (asks d h unread (term (opened None [])))
+after_head d h (Some follow.End) = on (line (with_column d h None no_fields))
+after_head d h None = halt form
 
 -- a word of a condition
 abbrev pub asking : Draft → Head → Move → Motion

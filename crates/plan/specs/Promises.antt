@@ -11,7 +11,7 @@ use Rattle.conditions.specs.Postfix.{trees, asked}
 use Rattle.conditions.specs.declared.reader.Read.{Read}
 use Rattle.plan.specs.Lines.{declared}
 use Rattle.plan.specs.Drafts.{Head, Draft, draft_of, columns_of, with_column}
-use Rattle.plan.specs.Machine.{Stage, Motion, on, halt, start, second, line, named, measured, headed, after_kind, naming, naming_line, column_name, step, finish, run}
+use Rattle.plan.specs.Machine.{Stage, Motion, on, halt, start, second, line, named, measured, headed, after_kind, admit, naming, naming_line, column_name, step, finish, run}
 use Rattle.words.specs.Tables.{texts}
 use Rattle.plan.specs.declared.reading.Awaits.{Awaits}
 use Rattle.plan.specs.declared.reading.Awaits.TheVariants.{Rows, Base, Columns}
@@ -43,6 +43,10 @@ Shorter v w = length (to_come w) < length (to_come v)
 pub record LineOfNames (more done : List (List ℕ) → Stage) (upper : Bool) (most : ℕ) : Type 0 where
   pub steps : (ns : List (List ℕ)) (x : Lexeme) → step (more ns) x ≡ naming_line more done upper most ns x
   pub mid : (ns : List (List ℕ)) (at : Spot) → finish (more ns) at ≡ Err (refusal form at)
+
+-- reading a name that is new among others
+abbrev pub ReadsNew : Bool → ℕ → Words → Words → List (List ℕ) → Result (Bor (List ℕ)) Refusal → Type 0
+ReadsNew upper most v w ns x = (goes_to : List ℕ → Stage) → Leads w (onto v (admit goes_to ns most (declared upper (next (to_come v))))) (λ (t : Bor (List ℕ)). goes_to t.now) x
 
 -- reading one name
 abbrev pub ReadsName : Bool → ℕ → Words → Words → List (List ℕ) → List (List ℕ) → Result (Unit {0}) Refusal → Type 0

@@ -1,5 +1,5 @@
 // The columns of a plan.
-ghost use Rattle.std.specs.Prelude.{◌≡◌, ◌<◌, [], ◌∷◌, ◌++◌, length, is_some, slice_set};
+ghost use Rattle.std.specs.Prelude.{◌≡◌, ◌<◌, [], ◌∷◌, ◌++◌, length, is_some};
 ghost use Rattle.words.specs.Tables.{texts, place};
 ghost use Rattle.plan.specs.Drafts.{columns_of, column_names, entry_of};
 
@@ -7,17 +7,6 @@ use crate::plan::{Column, Columns, MOST_COLUMNS, Plan};
 use any_measure::any::AnyMeasure;
 use conditions::condition::{Condition, FieldNames, MOST_FIELDS};
 use words::names::Table;
-
-impl Columns<AnyMeasure> {
-    // Puts a column into a place.
-    fn put(&mut self, i: usize, column: Column<AnyMeasure>)
-        requires { i < 8 }
-        ensures places { self.new.places ≡ slice_set self.old.places i column }
-        ensures within { i < length self.old.places }
-    {
-        self.places[i] = column;
-    }
-}
 
 impl<'a> Plan<'a, AnyMeasure> {
     // A plan of no names and no columns, for words of this text.
@@ -65,10 +54,9 @@ impl<'a> Plan<'a, AnyMeasure> {
         ensures names { self.new.names ≡ self.old.names }
         ensures columns { columns_of self.new ≡ columns_of self.old ++ (entry_of name.now column ∷ []) }
     {
-        let used = self.titles.len();
-        if used < MOST_COLUMNS {
-            self.columns.put(used, column);
-            self.titles.add(name);
+        let place = self.titles.len();
+        if self.titles.add(name).is_ok() {
+            self.columns.places[place] = column;
         }
     }
 }

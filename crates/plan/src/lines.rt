@@ -1,109 +1,100 @@
 // Reads the lines of a plan.
 ghost use Rattle.std.specs.Prelude.{◌≡◌, ◌<◌, ◌≤◌, true, length, OnOk, nat_lt};
-ghost use Rattle.words.specs.Cutting.{to_come, here};
+ghost use Rattle.words.specs.Cutting.{to_come};
 ghost use Rattle.words.specs.Tables.{texts};
-ghost use Rattle.conditions.specs.Machine.{refusal, form, taken, unknown, limit};
 ghost use Rattle.plan.specs.Drafts.{columns_of};
 ghost use Rattle.plan.specs.Machine.{some};
-ghost use Rattle.plan.specs.Promises.{Shorter, ReadsName, ReadsNames, ReadsKind, ReadsField, ReadsMeasured, ReadsWhere, ReadsColumn, ReadsTitle};
+ghost use Rattle.plan.specs.Promises.{Shorter, ReadsNew, ReadsName, ReadsNames, ReadsKind, ReadsField, ReadsMeasured, ReadsWhere, ReadsColumn, ReadsTitle};
 
-use crate::plan::{Column, MOST_COLUMNS, Plan};
-use crate::words_of_plan::{
-    Declared, Following, declared_of, ends_line, following_of, kind_of, takes_field,
-};
+use crate::plan::{Column, MOST_BASE, MOST_COLUMNS, Plan};
+use crate::words_of_plan::{Following, declared_of, ends_line, following_of, kind_of, takes_field};
 use any_measure::any::AnyMeasure;
 use conditions::condition::{Condition, FieldNames, MOST_FIELDS};
 use conditions::reader::Read;
 use conditions::reading::read_condition;
+use conditions::wrong::Wrong;
 use text::refusal::Refusal;
 use words::cursor::Words;
 use words::names::Table;
 
-// The form is broken at the next word.
-pub(crate) fn broken(words: &Words) -> Refusal
-    ensures { result ≡ refusal form (here words.now) }
-{
-    let (line, word) = words.place();
-    Refusal::PlanForm { line, word }
-}
-
-// The next word is a name used again or reserved.
-fn used_again(words: &Words) -> Refusal
-    ensures { result ≡ refusal taken (here words.now) }
-{
-    let (line, word) = words.place();
-    Refusal::NameTaken { line, word }
-}
-
-// The next word names no field.
-fn no_field(words: &Words) -> Refusal
-    ensures { result ≡ refusal unknown (here words.now) }
-{
-    let (line, word) = words.place();
-    Refusal::UnknownField { line, word }
-}
-
-// The next word is one too many.
-fn too_many(words: &Words) -> Refusal
-    ensures { result ≡ refusal limit (here words.now) }
-{
-    let (line, word) = words.place();
-    Refusal::PlanLimit { line, word }
-}
-
-// Whether one more is within a limit.
-fn has_room(count: usize, most: usize) -> bool
-    ensures { result ≡ nat_lt count most }
-{
-    count < most
-}
-
-// One name more into a table.
-fn read_name<'a>(
-    words: &mut Words<'a>,
-    table: &mut Table<'a>,
+// The names of one kind: whether they are in upper case, and how many there are at most.
+#[derive(Clone, Copy)]
+pub(crate) struct NameRule {
     upper: bool,
     most: usize,
-) -> Result<(), Refusal>
-    requires { most ≤ 8 }
-    ensures value { ReadsName upper most words.old words.new (texts table.old) (texts table.new) result }
-    ensures shorter { OnOk result (Shorter words.old words.new) }
-    ensures some { OnOk result (some (texts table.new) ≡ true) }
-{
-    match declared_of(words.peek(), upper) {
-        Declared::NoName => Err(broken(words)),
-        Declared::Held => Err(used_again(words)),
-        Declared::Word(text) => {
-            if table.find(text).is_some() {
-                return Err(used_again(words));
-            }
-            if !has_room(table.len(), most) {
-                return Err(too_many(words));
-            }
-            table.add(text);
-            words.advance();
-            Ok(())
+    ghost few: { most ≤ 8 },
+}
+
+pub(crate) const ROW_NAMES: NameRule = NameRule {
+    upper: false,
+    most: MOST_FIELDS,
+};
+
+pub(crate) const BASE_NAMES: NameRule = NameRule {
+    upper: true,
+    most: MOST_BASE,
+};
+
+const COLUMN_NAMES: NameRule = NameRule {
+    upper: false,
+    most: MOST_COLUMNS,
+};
+
+impl NameRule {
+    // Whether one name more is within the limit.
+    fn has_room(self, count: usize) -> bool
+        ensures { result ≡ nat_lt count self.most }
+    {
+        count < self.most
+    }
+
+    // One name that is new among others.
+    fn read_new<'a>(self, words: &mut Words<'a>, names: &Table) -> Result<&'a [u8], Refusal>
+        ensures value { ReadsNew self.upper self.most words.old words.new (texts names.now) result }
+        ensures shorter { OnOk result (Shorter words.old words.new) }
+        ensures room { OnOk result (length (texts names.now) < self.most) }
+    {
+        let name = match declared_of(words.peek(), self.upper) {
+            Ok(name) => name,
+            Err(no_name) => return Err(no_name.wrong().at(words)),
+        };
+        if names.find(name).is_some() {
+            return Err(Wrong::Taken.at(words));
         }
+        if !self.has_room(names.len()) {
+            return Err(Wrong::Limit.at(words));
+        }
+        words.advance();
+        Ok(name)
     }
-}
 
-// The names of a line, one at least, and its end.
-pub(crate) fn read_names<'a>(
-    words: &mut Words<'a>,
-    table: &mut Table<'a>,
-    upper: bool,
-    most: usize,
-) -> Result<(), Refusal>
-    requires { most ≤ 8 }
-    ensures value { ReadsNames upper most words.old words.new (texts table.old) (texts table.new) result }
-    ensures shorter { OnOk result (Shorter words.old words.new) }
-{
-    read_name(words, table, upper, most)?;
-    while !ends_line(words.peek()) {
-        read_name(words, table, upper, most)?;
+    // One name more into a table.
+    fn read_name<'a>(self, words: &mut Words<'a>, table: &mut Table<'a>) -> Result<(), Refusal>
+        ensures value { ReadsName self.upper self.most words.old words.new (texts table.old) (texts table.new) result }
+        ensures shorter { OnOk result (Shorter words.old words.new) }
+        ensures some { OnOk result (some (texts table.new) ≡ true) }
+    {
+        let name = self.read_new(words, table)?;
+        let _ = table.add(name);
+        Ok(())
     }
-    words.advance();
-    Ok(())
+
+    // The names of a line, one at least, and its end.
+    pub(crate) fn read_names<'a>(
+        self,
+        words: &mut Words<'a>,
+        table: &mut Table<'a>,
+    ) -> Result<(), Refusal>
+        ensures value { ReadsNames self.upper self.most words.old words.new (texts table.old) (texts table.new) result }
+        ensures shorter { OnOk result (Shorter words.old words.new) }
+    {
+        self.read_name(words, table)?;
+        while !ends_line(words.peek()) {
+            self.read_name(words, table)?;
+        }
+        words.advance();
+        Ok(())
+    }
 }
 
 // A column's name.
@@ -112,20 +103,7 @@ fn read_title<'a>(words: &mut Words<'a>, plan: &Plan<'a, AnyMeasure>) -> Result<
     ensures shorter { OnOk result (Shorter words.old words.new) }
     ensures room { OnOk result (length (columns_of plan.now) < 8) }
 {
-    match declared_of(words.peek(), false) {
-        Declared::NoName => Err(broken(words)),
-        Declared::Held => Err(used_again(words)),
-        Declared::Word(text) => {
-            if plan.has_column(text) {
-                return Err(used_again(words));
-            }
-            if !has_room(plan.len(), MOST_COLUMNS) {
-                return Err(too_many(words));
-            }
-            words.advance();
-            Ok(text)
-        }
-    }
+    COLUMN_NAMES.read_new(words, &plan.titles)
 }
 
 // A measure.
@@ -133,13 +111,11 @@ fn read_kind(words: &mut Words) -> Result<AnyMeasure, Refusal>
     ensures value { ReadsKind words.old words.new result }
     ensures on { length (to_come words.new) ≤ length (to_come words.old) }
 {
-    match kind_of(words.peek()) {
-        None => Err(broken(words)),
-        Some(kind) => {
-            words.advance();
-            Ok(kind)
-        }
-    }
+    let Some(kind) = kind_of(words.peek()) else {
+        return Err(Wrong::Form.at(words));
+    };
+    words.advance();
+    Ok(kind)
 }
 
 // A row field.
@@ -147,17 +123,14 @@ fn read_field(words: &mut Words, rows: &Table) -> Result<u8, Refusal>
     ensures value { ReadsField (texts rows.now) words.old words.new result }
     ensures on { length (to_come words.new) ≤ length (to_come words.old) }
 {
-    match declared_of(words.peek(), false) {
-        Declared::NoName => Err(broken(words)),
-        Declared::Held => Err(broken(words)),
-        Declared::Word(text) => match rows.find(text) {
-            None => Err(no_field(words)),
-            Some(i) => {
-                words.advance();
-                Ok(i)
-            }
-        },
-    }
+    let Ok(name) = declared_of(words.peek(), false) else {
+        return Err(Wrong::Form.at(words));
+    };
+    let Some(field) = rows.find(name) else {
+        return Err(Wrong::Unknown.at(words));
+    };
+    words.advance();
+    Ok(field)
 }
 
 // The row field that is measured, if the measure takes one.
@@ -166,8 +139,7 @@ fn read_measured(words: &mut Words, kind: AnyMeasure, rows: &Table) -> Result<Op
     ensures on { length (to_come words.new) ≤ length (to_come words.old) }
 {
     if takes_field(kind) {
-        let field = read_field(words, rows)?;
-        Ok(Some(field))
+        Ok(Some(read_field(words, rows)?))
     } else {
         Ok(None)
     }
@@ -178,19 +150,16 @@ fn read_where(words: &mut Words, names: &FieldNames) -> Result<Read, Refusal>
     ensures value { ReadsWhere (texts names.now.rows) (texts names.now.base) words.old words.new result }
     ensures on { OnOk result (length (to_come words.new) ≤ length (to_come words.old)) }
 {
-    match following_of(words.peek()) {
-        Following::Nothing => Err(broken(words)),
-        Following::End => {
-            words.advance();
-            Ok(Read {
-                condition: Condition::always(),
-                fields: [false; MOST_FIELDS],
-            })
-        }
-        Following::Where => {
-            words.advance();
-            read_condition(words, names)
-        }
+    let Some(following) = following_of(words.peek()) else {
+        return Err(Wrong::Form.at(words));
+    };
+    words.advance();
+    match following {
+        Following::Where => read_condition(words, names),
+        Following::End => Ok(Read {
+            condition: Condition::always(),
+            fields: [false; MOST_FIELDS],
+        }),
     }
 }
 

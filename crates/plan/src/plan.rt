@@ -18,14 +18,15 @@ pub struct Column<M> {
     pub fields: [bool; MOST_FIELDS],
 }
 
-// Places for eight columns.
+// Places for eight columns. In the plan itself, which holds a reference, they could not be read for every measure.
 #[derive(Drop)]
 pub struct Columns<M> {
     pub places: [Column<M>; MOST_COLUMNS],
 }
 
 // The names of the fields, and the names of the columns, each of which has the rest of it at the same place in
-// `columns`.
+// `columns`. An array of structs that hold both a name, which is a reference, and a measure of any type could not be
+// indexed, as a scan does; and this way the names of all three kinds are read and sought by the same calls.
 #[derive(Drop)]
 pub struct Plan<'a, M> {
     pub names: FieldNames<'a>,

@@ -3,11 +3,11 @@ ghost use Rattle.std.specs.Prelude.{◌≡◌};
 ghost use Rattle.plan.specs.Machine.{plan_of};
 ghost use Rattle.plan.specs.Promises.{meant};
 
-use crate::lines::{broken, read_column, read_names};
-use crate::plan::{MOST_BASE, Plan};
+use crate::lines::{BASE_NAMES, ROW_NAMES, read_column};
+use crate::plan::Plan;
 use crate::words_of_plan::{Leading, leading_of};
 use any_measure::any::AnyMeasure;
-use conditions::condition::MOST_FIELDS;
+use conditions::wrong::Wrong;
 use text::refusal::Refusal;
 use words::cursor::{MOST_BYTES, Words};
 
@@ -31,25 +31,22 @@ pub fn read_plan(text: &[u8]) -> Result<Plan<'_, AnyMeasure>, Refusal>
     let mut awaits = Awaits::Rows;
     while !words.is_done() {
         match (awaits, leading_of(words.peek())) {
-            (Awaits::Rows, Leading::Rows) => {
+            (Awaits::Rows, Some(Leading::Rows)) => {
                 words.advance();
-                read_names(&mut words, &mut plan.names.rows, false, MOST_FIELDS)?;
+                ROW_NAMES.read_names(&mut words, &mut plan.names.rows)?;
                 awaits = Awaits::Base;
             }
-            (Awaits::Base, Leading::Base) => {
+            (Awaits::Base, Some(Leading::Base)) => {
                 words.advance();
-                read_names(&mut words, &mut plan.names.base, true, MOST_BASE)?;
+                BASE_NAMES.read_names(&mut words, &mut plan.names.base)?;
                 awaits = Awaits::Columns;
             }
             (Awaits::Columns, _) => read_column(&mut words, &mut plan)?,
-            (Awaits::Rows, Leading::Base) => return Err(broken(&words)),
-            (Awaits::Rows, Leading::Neither) => return Err(broken(&words)),
-            (Awaits::Base, Leading::Rows) => return Err(broken(&words)),
-            (Awaits::Base, Leading::Neither) => return Err(broken(&words)),
+            _ => return Err(Wrong::Form.at(&words)),
         }
     }
     if plan.len() == 0 {
-        return Err(broken(&words));
+        return Err(Wrong::Form.at(&words));
     }
     Ok(plan)
 }

@@ -1,59 +1,62 @@
 // What the words of a plan are, outside conditions.
 ghost use Rattle.std.specs.Prelude.{◌≡◌, true};
 ghost use Rattle.words.specs.Lexemes.{seen};
-ghost use Rattle.plan.specs.Lines.{leading_keyword, leading, kind_keyword, kind_of, following_keyword, following, declared, telling, takes_field, ends_line};
+ghost use Rattle.plan.specs.Lines.{leading_keyword, leading, kind_keyword, kind_of, following_keyword, following, declared, telling, wrong_of, takes_field, ends_line};
 
 use any_measure::any::AnyMeasure;
+use conditions::wrong::Wrong;
+use measures::measure::Measure;
 use words::tokens::{Keyword, Token};
 
-// A line's first word: `rows`, `base`, or neither.
-#[derive(Clone, Copy)]
+// The keyword that begins a line.
+#[derive(Clone, Copy, PartialEq, Eq, Debug)]
 pub enum Leading {
     Rows,
     Base,
-    Neither,
 }
 
-// What follows a column's measure: `where`, the line's end, or nothing that may stand there.
-#[derive(Clone, Copy)]
+// What may follow a column's measure: `where`, or the line's end.
+#[derive(Clone, Copy, PartialEq, Eq, Debug)]
 pub enum Following {
     Where,
     End,
-    Nothing,
 }
 
-// A word that is to be a name: a name, a reserved word, or none of these.
-#[derive(Clone, Copy)]
-pub enum Declared<'a> {
-    Word(&'a [u8]),
+// Why a word is no name: it is reserved, or it has another form.
+#[derive(Clone, Copy, PartialEq, Eq, Debug)]
+pub enum NoName {
     Held,
-    NoName,
+    OtherForm,
 }
 
-fn leading_keyword(keyword: Keyword) -> Leading
-    ensures { result ≡ leading_keyword keyword }
-{
-    match keyword {
-        Keyword::Rows => Leading::Rows,
-        Keyword::Base => Leading::Base,
-        Keyword::Where => Leading::Neither,
-        Keyword::And => Leading::Neither,
-        Keyword::Or => Leading::Neither,
-        Keyword::Not => Leading::Neither,
-        Keyword::Count => Leading::Neither,
-        Keyword::Sum => Leading::Neither,
-        Keyword::Least => Leading::Neither,
-        Keyword::Greatest => Leading::Neither,
-        Keyword::Mean => Leading::Neither,
+impl NoName {
+    // What is wrong with such a word where a name is to be declared.
+    pub(crate) fn wrong(self) -> Wrong
+        ensures { result ≡ wrong_of self }
+    {
+        match self {
+            NoName::Held => Wrong::Taken,
+            NoName::OtherForm => Wrong::Form,
+        }
     }
 }
 
-pub(crate) fn leading_of(token: Token) -> Leading
+fn leading_keyword(keyword: Keyword) -> Option<Leading>
+    ensures { result ≡ leading_keyword keyword }
+{
+    match keyword {
+        Keyword::Rows => Some(Leading::Rows),
+        Keyword::Base => Some(Leading::Base),
+        _ => None,
+    }
+}
+
+pub(crate) fn leading_of(token: Token) -> Option<Leading>
     ensures { result ≡ leading (seen token.entry) }
 {
     match token {
         Token::Reserved { keyword, .. } => leading_keyword(keyword),
-        _ => Leading::Neither,
+        _ => None,
     }
 }
 
@@ -66,12 +69,7 @@ fn kind_keyword(keyword: Keyword) -> Option<AnyMeasure>
         Keyword::Least => Some(AnyMeasure::Least),
         Keyword::Greatest => Some(AnyMeasure::Greatest),
         Keyword::Mean => Some(AnyMeasure::Mean),
-        Keyword::Rows => None,
-        Keyword::Base => None,
-        Keyword::Where => None,
-        Keyword::And => None,
-        Keyword::Or => None,
-        Keyword::Not => None,
+        _ => None,
     }
 }
 
@@ -89,40 +87,25 @@ pub(crate) fn kind_of(token: Token) -> Option<AnyMeasure>
 pub(crate) fn takes_field(kind: AnyMeasure) -> bool
     ensures { result ≡ takes_field kind }
 {
-    match kind {
-        AnyMeasure::Count => false,
-        AnyMeasure::Sum => true,
-        AnyMeasure::Least => true,
-        AnyMeasure::Greatest => true,
-        AnyMeasure::Mean => true,
-    }
+    kind.fields() > 0
 }
 
-fn following_keyword(keyword: Keyword) -> Following
+fn following_keyword(keyword: Keyword) -> Option<Following>
     ensures { result ≡ following_keyword keyword }
 {
     match keyword {
-        Keyword::Where => Following::Where,
-        Keyword::Rows => Following::Nothing,
-        Keyword::Base => Following::Nothing,
-        Keyword::And => Following::Nothing,
-        Keyword::Or => Following::Nothing,
-        Keyword::Not => Following::Nothing,
-        Keyword::Count => Following::Nothing,
-        Keyword::Sum => Following::Nothing,
-        Keyword::Least => Following::Nothing,
-        Keyword::Greatest => Following::Nothing,
-        Keyword::Mean => Following::Nothing,
+        Keyword::Where => Some(Following::Where),
+        _ => None,
     }
 }
 
-pub(crate) fn following_of(token: Token) -> Following
+pub(crate) fn following_of(token: Token) -> Option<Following>
     ensures { result ≡ following (seen token.entry) }
 {
     match token {
         Token::Reserved { keyword, .. } => following_keyword(keyword),
-        Token::LineEnd { .. } => Following::End,
-        _ => Following::Nothing,
+        Token::LineEnd { .. } => Some(Following::End),
+        _ => None,
     }
 }
 
@@ -130,14 +113,11 @@ pub(crate) fn following_of(token: Token) -> Following
 pub(crate) fn ends_line(token: Token) -> bool
     ensures { result ≡ ends_line (seen token.entry) }
 {
-    match token {
-        Token::LineEnd { .. } => true,
-        _ => false,
-    }
+    matches!(token, Token::LineEnd { .. })
 }
 
 // A word where a name in upper or lower case is to stand; a reserved word has the form of one in lower case.
-pub(crate) fn declared_of<'a>(token: Token<'a>, upper: bool) -> Declared<'a>
+pub(crate) fn declared_of<'a>(token: Token<'a>, upper: bool) -> Result<&'a [u8], NoName>
     ensures { telling result ≡ declared upper (seen token.entry) }
 {
     match token {
@@ -145,20 +125,8 @@ pub(crate) fn declared_of<'a>(token: Token<'a>, upper: bool) -> Declared<'a>
             text,
             upper: other,
             ..
-        } => {
-            if upper == other {
-                Declared::Word(text)
-            } else {
-                Declared::NoName
-            }
-        }
-        Token::Reserved { .. } => {
-            if upper {
-                Declared::NoName
-            } else {
-                Declared::Held
-            }
-        }
-        _ => Declared::NoName,
+        } if upper == other => Ok(text),
+        Token::Reserved { .. } if !upper => Err(NoName::Held),
+        _ => Err(NoName::OtherForm),
     }
 }

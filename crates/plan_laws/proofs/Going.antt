@@ -184,17 +184,17 @@ naming_live more done upper most ns x k m = by_end (ends_line x) ns k
 step_live : (st : Stage) (x : Lexeme) → Live st → Lively (step st x)
 step_live start x l = by_first (leading x)
   where
-    by_first : (k : Leading) → Lively (first_line k)
-    by_first leads.Rows = tt
-    by_first leads.Base = tt
-    by_first leads.Neither = tt
+    by_first : (k : Option Leading) → Lively (first_line k)
+    by_first (Some leads.Rows) = tt
+    by_first (Some leads.Base) = tt
+    by_first None = tt
 step_live (rows ns) x l = naming_live rows second false 8 ns x (λ h. h) (λ ms. tt)
 step_live (second rs) x l = by_second (leading x)
   where
-    by_second : (k : Leading) → Lively (second_line rs k)
-    by_second leads.Rows = tt
-    by_second leads.Base = l
-    by_second leads.Neither = tt
+    by_second : (k : Option Leading) → Lively (second_line rs k)
+    by_second (Some leads.Rows) = tt
+    by_second (Some leads.Base) = l
+    by_second None = tt
 step_live (bases rs ns) x l = naming_live (bases rs) (λ ms. line (record { rows = rs; base = ms; columns = [] })) true 4 ns x (λ h. l) (λ ms. l)
 step_live (line d) x l = by_name (declared false x)
   where
@@ -223,10 +223,10 @@ step_live (measured d n k) x l = by_name (declared false x)
     by_name no_name = tt
 step_live (headed d h) x l = by_following (following x)
   where
-    by_following : (f : Following) → Lively (after_head d h f)
-    by_following follow.Where = l
-    by_following follow.End = l
-    by_following follow.Nothing = tt
+    by_following : (f : Option Following) → Lively (after_head d h f)
+    by_following (Some follow.Where) = l
+    by_following (Some follow.End) = l
+    by_following None = tt
 step_live (asks d h σ st) x l = by_move (conditions.step (names_of d) σ st x)
   where
     by_move : (m : conditions.Move) → Lively (asking d h m)
@@ -256,7 +256,7 @@ joined_run st at (x ∷ xs) st' l r h = by_step (λ s k q. joined_run s (past x 
   where
     by_step : ((s : Stage) → Live s → reached s xs ≡ Some st' → (rest : List Lexeme) × ((d : Draft) × (run s (past x at) (xs ++ rest) ≡ Ok d))) → (m : Motion) → Lively m → ◌≡◌ {A = Option Stage} (elim m [ on s ↦ reached s xs | halt f ↦ None ]) (Some st') → (rest : List Lexeme) × ((d : Draft) × (◌≡◌ {A = Result Draft Refusal} (elim m [ on s ↦ run s (past x at) (xs ++ rest) | halt f ↦ Err (refusal f at) ]) (Ok d)))
     by_step ih (on s) k q = ih s k q
-    by_step ih (halt f) k q = let z : ◌≡◌ {A = ℕ} 0 1 = cc in absurd (omega arith)
+    by_step ih (halt f) k q = cc
 
 pub good_words_go_on : GoodWordsGoOn
 good_words_go_on front st r h = joined_run start (spot 1 1) front st tt r h

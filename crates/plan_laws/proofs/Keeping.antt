@@ -84,15 +84,15 @@ naming_kept more done upper most ns x k m = by_end (ends_line x) ns k m
     by_end true (n ∷ ms) k m = k (omega arith)
     by_end false ms k m = by_name ms (declared upper x) m
 
-first_kept : (l : Leading) → Moved (first_line l)
-first_kept leads.Rows = omega arith
-first_kept leads.Base = tt
-first_kept leads.Neither = tt
+first_kept : (l : Option Leading) → Moved (first_line l)
+first_kept (Some leads.Rows) = omega arith
+first_kept (Some leads.Base) = tt
+first_kept None = tt
 
-second_kept : (rs : List (List ℕ)) (l : Leading) → (0 < length rs) × (length rs ≤ 8) → Moved (second_line rs l)
-second_kept rs leads.Rows k = tt
-second_kept rs leads.Base k = (k, omega arith)
-second_kept rs leads.Neither k = tt
+second_kept : (rs : List (List ℕ)) (l : Option Leading) → (0 < length rs) × (length rs ≤ 8) → Moved (second_line rs l)
+second_kept rs (Some leads.Rows) k = tt
+second_kept rs (Some leads.Base) k = (k, omega arith)
+second_kept rs None k = tt
 
 column_kept : (d : Draft) (n : Naming) → Sound d → Moved (column_name d n)
 column_kept d (word w) k = enter_kept (column_names d.columns) w 8 (machine.named d w) (λ l. (k, omega (arith, l, names_long d.columns)))
@@ -143,7 +143,7 @@ finish_kept (headed d h) at k = tt
 finish_kept (asks d h σ st) at k = tt
 
 -- the row fields that a plan's names give are among eight
-names_known : (d : Draft) → Sound d → (w : List ℕ) (i : ℕ) → names_of d w ≡ RowField i → i < 8
+names_known : (d : Draft) → Sound d → (w : List ℕ) (i : ℕ) → names_of d w ≡ Ok (RowField i) → i < 8
 names_known d k w i h = omega (arith, k.rows.1, place_below d.rows w 0 i (row_place (place d.rows w 0) (place d.base w 0) i h))
 
 -- what follows a condition
@@ -160,10 +160,10 @@ by_step x at xs go (on st) k = go st k
 by_step x at xs go (halt f) k = tt
 
 -- a column's head
-by_head : (d : Draft) (h : Head) (x : Lexeme) (at : Spot) (xs : List Lexeme) → Sound d × (length d.columns < 8) → ((e : Draft) (at' : Spot) (ys : List Lexeme) → length ys ≤ length xs → Sound e → Good (run (line e) at' ys)) → (f : Following) → Good (elim (after_head d h f) [ on st ↦ run st (past x at) xs | halt f ↦ Err (refusal f at) ])
-by_head d h x at xs k go follow.Where = subst Good (sym (asks_condition d h (past x at) xs)) (after_kept d h (past x at) xs (condition_of (names_of d) (past x at) xs) refl k (λ e at' ys s v. go e at' ys (omega (arith, s)) v))
-by_head d h x at xs k go follow.End = go (with_column d h None no_fields) (past x at) xs (omega arith) (column_more d h None no_fields k refl)
-by_head d h x at xs k go follow.Nothing = tt
+by_head : (d : Draft) (h : Head) (x : Lexeme) (at : Spot) (xs : List Lexeme) → Sound d × (length d.columns < 8) → ((e : Draft) (at' : Spot) (ys : List Lexeme) → length ys ≤ length xs → Sound e → Good (run (line e) at' ys)) → (f : Option Following) → Good (elim (after_head d h f) [ on st ↦ run st (past x at) xs | halt f ↦ Err (refusal f at) ])
+by_head d h x at xs k go (Some follow.Where) = subst Good (sym (asks_condition d h (past x at) xs)) (after_kept d h (past x at) xs (condition_of (names_of d) (past x at) xs) refl k (λ e at' ys s v. go e at' ys (omega (arith, s)) v))
+by_head d h x at xs k go (Some follow.End) = go (with_column d h None no_fields) (past x at) xs (omega arith) (column_more d h None no_fields k refl)
+by_head d h x at xs k go None = tt
 
 -- with at most n words left
 keeps : (n : ℕ) (st : Stage) (at : Spot) (xs : List Lexeme) → length xs ≤ n → Kept st → Good (run st at xs)

@@ -1,15 +1,13 @@
 -- The refusal is settled by the words up to the refused one. Assumes nothing.
-use Rattle.std.proofs.Common.{◌≡◌, ℕ, ◌+◌, ◌<◌, ◌≤◌, Bool, true, false, cond, eqb, ltb, ◌⊎◌, List, [], ◌∷◌, ◌++◌, length, ℤ, Some, None, Err, Option, Result, sym, refl, ap, ◌∙◌, subst, inl, inr, arith}
+use Rattle.std.proofs.Common.{◌≡◌, ℕ, ◌+◌, ◌<◌, ◌≤◌, Bool, true, false, cond, eqb, ltb, ◌⊎◌, List, [], ◌∷◌, ◌++◌, length, Err, Result, sym, refl, ap, ◌∙◌, subst, inl, inr, arith}
 use Rattle.std.proofs.lemmas.Bool.{cond-false, le-ltb}
-use Rattle.text.specs.Numbers as numbers
 use Rattle.text.specs.declared.refusal.Refusal.{Refusal}
-use Rattle.words.specs.Lexemes.{Lexeme, name, reserved, number, sign, shift, bracket, other, feed, cut, lexeme, numbered, marked, mark_in, keyed, keyword_of, named, lower_name, upper_name}
+use Rattle.words.specs.Lexemes.{Lexeme, name, reserved, number, sign, shift, bracket, other, feed, cut, lexeme}
 use Rattle.words.specs.Spots.{Spot, spot, past}
 use Rattle.words.specs.Cutting.{line, spell, lexemes}
-use Rattle.words.specs.declared.signs.Mark.{Mark}
-use Rattle.words.specs.declared.signs.Mark.TheVariants as marks
-use Rattle.words.specs.declared.tokens.Keyword.{Keyword}
-use Rattle.conditions.specs.Machine.{Fault, form, taken, unknown, limit, refusal}
+use Rattle.words.proofs.Walking.{each_word}
+use Rattle.conditions.specs.Machine.{Fault, form, refusal}
+use Rattle.conditions.specs.declared.wrong.Wrong.TheVariants.{Form, Taken, Unknown, Limit}
 use Rattle.plan.specs.Drafts.{Draft, Entry}
 use Rattle.plan.specs.Machine.{Stage, Motion, on, halt, step, start, rows, second, bases, measured, headed, asks, whole, finish, run, plan_of}
 use Rattle.plan.specs.Machine as machine
@@ -32,28 +30,8 @@ AllTold [] = Unit {0}
 AllTold (x ∷ xs) = Told x × AllTold xs
 
 -- what a text is cut into
-module _ (w : List ℕ) where
-  named_told : (a b : Bool) → Told (cond a (name false w) (cond b (name true w) other))
-  named_told true b = tt
-  named_told false true = tt
-  named_told false false = tt
-
-  keyed_told : (k : Option Keyword) → Told (keyed k (named w))
-  keyed_told (Some k) = tt
-  keyed_told None = named_told (lower_name w) (upper_name w)
-
-  marked_told : (m : Mark) → Told (marked m w)
-  marked_told (marks.Sign s) = tt
-  marked_told (marks.Shift b) = tt
-  marked_told (marks.Bracket b) = tt
-  marked_told marks.NoMark = keyed_told (keyword_of w)
-
-  numbered_told : (o : Option ℤ) → Told (numbered o (marked (mark_in w) w))
-  numbered_told (Some z) = tt
-  numbered_told None = marked_told (mark_in w)
-
-  lexeme_told : Told (lexeme w)
-  lexeme_told = numbered_told (numbers.number w)
+lexeme_told : (w : List ℕ) → Told (lexeme w)
+lexeme_told w = each_word Told (λ u t. tt) (λ k. tt) (λ z. tt) (λ s. tt) (λ b. tt) (λ b. tt) tt w
 
 line_told : (bs : List ℕ) (s : List ℕ × List Lexeme) → AllTold s.1 → AllTold (line bs s)
 line_told [] s h = tt
@@ -78,22 +56,22 @@ Reached a b = (a.line < b.line) ⊎ ((a.line ≡ b.line) × (a.word ≤ b.word))
 
 -- refusals tell their places
 same_spot : (f g : Fault) (a b : Spot) → refusal f a ≡ refusal g b → (a.line ≡ b.line) × (a.word ≡ b.word)
-same_spot form form a b h = (cc, cc)
-same_spot taken taken a b h = (cc, cc)
-same_spot unknown unknown a b h = (cc, cc)
-same_spot limit limit a b h = (cc, cc)
-same_spot form taken a b h = let z : ◌≡◌ {A = ℕ} 0 1 = cc in absurd (omega arith)
-same_spot form unknown a b h = let z : ◌≡◌ {A = ℕ} 0 1 = cc in absurd (omega arith)
-same_spot form limit a b h = let z : ◌≡◌ {A = ℕ} 0 1 = cc in absurd (omega arith)
-same_spot taken form a b h = let z : ◌≡◌ {A = ℕ} 0 1 = cc in absurd (omega arith)
-same_spot taken unknown a b h = let z : ◌≡◌ {A = ℕ} 0 1 = cc in absurd (omega arith)
-same_spot taken limit a b h = let z : ◌≡◌ {A = ℕ} 0 1 = cc in absurd (omega arith)
-same_spot unknown form a b h = let z : ◌≡◌ {A = ℕ} 0 1 = cc in absurd (omega arith)
-same_spot unknown taken a b h = let z : ◌≡◌ {A = ℕ} 0 1 = cc in absurd (omega arith)
-same_spot unknown limit a b h = let z : ◌≡◌ {A = ℕ} 0 1 = cc in absurd (omega arith)
-same_spot limit form a b h = let z : ◌≡◌ {A = ℕ} 0 1 = cc in absurd (omega arith)
-same_spot limit taken a b h = let z : ◌≡◌ {A = ℕ} 0 1 = cc in absurd (omega arith)
-same_spot limit unknown a b h = let z : ◌≡◌ {A = ℕ} 0 1 = cc in absurd (omega arith)
+same_spot Form Form a b h = (cc, cc)
+same_spot Taken Taken a b h = (cc, cc)
+same_spot Unknown Unknown a b h = (cc, cc)
+same_spot Limit Limit a b h = (cc, cc)
+same_spot Form Taken a b h = cc
+same_spot Form Unknown a b h = cc
+same_spot Form Limit a b h = cc
+same_spot Taken Form a b h = cc
+same_spot Taken Unknown a b h = cc
+same_spot Taken Limit a b h = cc
+same_spot Unknown Form a b h = cc
+same_spot Unknown Taken a b h = cc
+same_spot Unknown Limit a b h = cc
+same_spot Limit Form a b h = cc
+same_spot Limit Taken a b h = cc
+same_spot Limit Unknown a b h = cc
 
 unerr : (y z : Refusal) → ◌≡◌ {A = Result Draft Refusal} (Err y) (Err z) → y ≡ z
 unerr y z h = cc
@@ -151,7 +129,7 @@ end_here (machine.line d) at b f h = by_columns d.columns h
   where
     by_columns : (cs : List Entry) → whole d cs at ≡ Err (refusal f b) → Reached at b
     by_columns [] g = here form f at b g
-    by_columns (c ∷ cs) g = let z : ◌≡◌ {A = ℕ} 0 1 = cc in absurd (omega arith)
+    by_columns (c ∷ cs) g = cc
 end_here start at b f h = here form f at b h
 end_here (rows ns) at b f h = here form f at b h
 end_here (second rs) at b f h = here form f at b h

@@ -66,11 +66,11 @@ pub times_none : {X Y : Type 0} (F : List X → Y) (r : Reader X) (n : ℕ) (bs 
 times_none F r n bs e = ap (λ o. changed F (changed listed (go_on o (λ _. times n r)))) e
 
 -- one of c was passed over
-pub after_more : {X : Type 0} (r : Reader X) (c : ℕ) (bs rest : List ℕ) → 0 < c → Some rest ≡ after (r bs) → after (times c r bs) ≡ after (times (c - 1) r rest)
-after_more r zero bs rest h e = absurd (omega arith)
-after_more {X} r (suc c) bs rest h e = go (r bs) e ∙ ap (λ n. after (times n r rest)) one
+pub after_more : {X : Type 0} (r : Reader X) (c d : ℕ) (bs rest : List ℕ) → c ≡ suc d → Some rest ≡ after (r bs) → after (times c r bs) ≡ after (times d r rest)
+after_more r zero d bs rest h e = absurd (omega arith)
+after_more {X} r (suc c) d bs rest h e = go (r bs) e ∙ ap (λ n. after (times n r rest)) one
   where
-    one : c ≡ suc c - 1
+    one : c ≡ d
     one = omega arith
 
     go : (o : Option (X × List ℕ)) → Some rest ≡ after o → after (changed listed (go_on o (λ _. times c r))) ≡ after (times c r rest)

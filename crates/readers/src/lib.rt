@@ -6,6 +6,9 @@ ghost use Rattle.std.specs.Prelude.{◌≡◌};
 ghost use Rattle.readers.specs.Readers.{number};
 ghost use Rattle.readers.specs.Seen.{seen};
 
+// Two functions and no generic one: all that they do is `from_le_bytes`, which each number has as its own, and
+// a trait for it would need an implementation beside each.
+
 // A number of two bytes, lowest first, and the bytes after it.
 pub fn take_u16(bytes: &[u8]) -> Option<(u16, &[u8])>
     ensures { seen result ≡ number 2 bytes.now }

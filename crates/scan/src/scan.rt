@@ -22,52 +22,8 @@ fn one_row<M: Measure>(measure: &M, field: Option<u8>, row: &[i32]) -> M::Value
 {
     match field {
         None => measure.one(&[]),
-        Some(field) => measure.one(&[value_at(row, field as usize)]),
+        Some(field) => measure.one(&[value_at(row, usize::from(field))]),
     }
-}
-
-// One row more, if it meets the condition of the column.
-fn with_row<M: Measure>(
-    column: &Column<M>,
-    base: &[i32],
-    all: Gathered<M::Value>,
-    row: &[i32],
-) -> Gathered<M::Value>
-    requires { all.rows + 1 < 2 ^ 64 }
-    ensures { result ≡ with_row (M.Measure.meaning column.now.measure) column.now base.now all row.now }
-{
-    if column.condition.holds(row, base) {
-        Gathered {
-            value: column
-                .measure
-                .join(all.value, one_row(&column.measure, column.field, row)),
-            rows: all.rows + 1,
-        }
-    } else {
-        all
-    }
-}
-
-// What the rows that meet the condition come to; nothing where one of the list is no row of the width.
-fn gather<M: Measure>(
-    column: &Column<M>,
-    width: usize,
-    base: &[i32],
-    rows: &[&[i32]],
-) -> Option<Gathered<M::Value>>
-    ensures { Gathers (M.Measure.meaning column.now.measure) column.now width base.now (rows_of rows.now) result }
-{
-    let mut all = Gathered {
-        value: column.measure.none(),
-        rows: 0,
-    };
-    for row in rows {
-        if !is_row(width, row) {
-            return None;
-        }
-        all = with_row(column, base, all, row);
-    }
-    Some(all)
 }
 
 // Whether these are more rows than are ever taken together.
@@ -77,26 +33,66 @@ fn are_too_many(rows: &[&[i32]]) -> bool
     rows.len() > MOST_ROWS as usize
 }
 
-// Scans the rows by a column: its answer for a base row over the rows that meet its condition, and how many these are.
-fn scan_column<M: Measure>(
-    column: &Column<M>,
+// What is scanned for: a column, the width of a row, and a base row.
+#[derive(Clone, Copy)]
+struct Asked<'a, M> {
+    column: &'a Column<M>,
     width: usize,
-    rows: &[&[i32]],
-    base: &[i32],
-) -> Result<Scanned<M::Answer>, Refusal>
-    ensures { result ≡ scanned_by M.Measure.meaning column.now width (rows_of rows.now) base.now }
-{
-    let Some(all) = gather(column, width, base, rows) else {
-        return Err(Refusal::NotARow);
-    };
-    if are_too_many(rows) {
-        return Err(Refusal::TooManyRows);
+    base: &'a [i32],
+}
+
+impl<M: Measure> Asked<'_, M> {
+    // One row more, if it meets the condition of the column.
+    fn with_row(&self, all: Gathered<M::Value>, row: &[i32]) -> Gathered<M::Value>
+        requires { all.rows + 1 < 2 ^ 64 }
+        ensures { result ≡ with_row (M.Measure.meaning self.now.column.now.measure) self.now.column.now self.now.base.now all row.now }
+    {
+        let column = self.column;
+        if column.condition.holds(row, self.base) {
+            Gathered {
+                value: column
+                    .measure
+                    .join(all.value, one_row(&column.measure, column.field, row)),
+                rows: all.rows + 1,
+            }
+        } else {
+            all
+        }
     }
-    let met = all.rows as u32;
-    Ok(Scanned {
-        answer: column.measure.answer(all.value, met),
-        rows: met,
-    })
+
+    // What the rows that meet the condition come to; nothing where one of the list is no row of the width.
+    fn gather(&self, rows: &[&[i32]]) -> Option<Gathered<M::Value>>
+        ensures { Gathers (M.Measure.meaning self.now.column.now.measure) self.now.column.now self.now.width self.now.base.now (rows_of rows.now) result }
+    {
+        let mut all = Gathered {
+            value: self.column.measure.none(),
+            rows: 0,
+        };
+        for row in rows {
+            if !is_row(self.width, row) {
+                return None;
+            }
+            all = self.with_row(all, row);
+        }
+        Some(all)
+    }
+
+    // Scans the rows by the column: its answer over the rows that meet its condition, and how many these are.
+    fn answer(&self, rows: &[&[i32]]) -> Result<Scanned<M::Answer>, Refusal>
+        ensures { result ≡ scanned_by M.Measure.meaning self.now.column.now self.now.width (rows_of rows.now) self.now.base.now }
+    {
+        let Some(all) = self.gather(rows) else {
+            return Err(Refusal::NotARow);
+        };
+        if are_too_many(rows) {
+            return Err(Refusal::TooManyRows);
+        }
+        let met = all.rows as u32;
+        Ok(Scanned {
+            answer: self.column.measure.answer(all.value, met),
+            rows: met,
+        })
+    }
 }
 
 // A column of a plan by its place; past the last place, the last.
@@ -119,12 +115,12 @@ pub fn scan<M: Measure>(
     ensures { result ≡ scanned M.Measure.meaning plan.now (rows_of rows.now) base.now column }
 {
     let names = &plan.names;
-    let found = scan_column(
-        column_at(&plan.columns, column),
-        names.rows.len(),
-        rows,
+    let asked = Asked {
+        column: column_at(&plan.columns, column),
+        width: names.rows.len(),
         base,
-    )?;
+    };
+    let found = asked.answer(rows)?;
     if column >= plan.titles.len() {
         return Err(Refusal::NoSuchColumn);
     }

@@ -2,7 +2,7 @@
 use Rattle.std.proofs.Common.{◌≡◌, ℕ, zero, suc, ◌+◌, ◌-◌, ◌*◌, ◌^◌, ◌<◌, ◌≤◌, Bool, true, false, cond, not, ◌&&◌, eqb, ltb, leb, List, [], ◌∷◌, length, get_or, take, drop, Some, None, sym, refl, ap, ◌∙◌, pow-suc, add-one, arith}
 use native.Mathlib.Nat.{pow-le-pow_right}
 use Rattle.std.specs.Char.{is_ascii_digit}
-use Rattle.std.proofs.lemmas.List.{drop_all, drop_more, get_or-take}
+use Rattle.std.proofs.lemmas.List.{drop_all, drop_more, get_or-take, length-take-le}
 use Rattle.std.proofs.lemmas.Bool.{cond-true, cond-false, and_parts, and_from, and_left, leb-true, le-leb, lt-ltb, le-ltb, eq-eqb, ne_eqb}
 use Rattle.std.specs.Str.{all_ascii_digits}
 use Rattle.text.specs.Numbers.{digits_front, front, read_on, plain, unsigned, positive, negative, number}
@@ -68,6 +68,12 @@ pub passed_all : (text : List ℕ) (count value : ℕ) → Passed text count val
 passed_all text count value p e =
     (omega (arith, p.long, ap (λ l. count + length l) e), sym (p.worth ∙ ap (read_on value) e), most_small count value p.few p.small)
 
+-- a byte among the first ones of a text is the text's own
+pub among_first : (text : List ℕ) (most i count : ℕ) → most ≤ 9 → most ≤ length text → i < length (take most text) → count ≡ i → (count < 9) × (count < length text) × (get_or (take most text) i 0 ≡ get_or text count 0)
+among_first text most i count few within h e =
+    let l = length-take-le most text within in
+    (omega arith, omega arith, get_or-take most text i 0 (omega arith) ∙ ap (λ k. get_or text k 0) (sym e))
+
 -- the digits in front are digits
 pub front_digits : (k : ℕ) (text : List ℕ) → all_ascii_digits (digits_front k text) ≡ true
 front_digits zero text = refl
@@ -131,24 +137,8 @@ module _ (text : List ℕ) (sign : get_or text 0 0 ≡ 45) where
   pub minus_front : front text ≡ 45 ∷ digits_front 9 (drop 1 text)
   minus_front = cond-true (eqb (get_or text 0 0) 45) _ _ (eq-eqb _ 45 sign)
 
-  -- and their number is negative
-  pub minus_number : number (front text) ≡ negative (unsigned (digits_front 9 (drop 1 text)))
-  minus_number = ap number minus_front
-
 -- a text that does not
 module _ (text : List ℕ) (plainly : get_or text 0 0 ≡ 45 → ⊥) where
   -- its front is its digits
   pub plain_front : front text ≡ digits_front 9 text
   plain_front = cond-false (eqb (get_or text 0 0) 45) _ _ (ne_eqb _ 45 plainly)
-
-  -- digits begin with no minus sign
-  no_sign : get_or (digits_front 9 text) 0 0 ≡ 45 → ⊥
-  no_sign e = go (digits_front 9 text) (front_digits 9 text) e
-    where
-      go : (ds : List ℕ) → all_ascii_digits ds ≡ true → get_or ds 0 0 ≡ 45 → ⊥
-      go [] d z = omega (arith, z)
-      go (c ∷ cs) d z = omega (arith, z, (digit_range c (and_parts (is_ascii_digit c) (all_ascii_digits cs) d).0).0)
-
-  -- and their number is taken as it is
-  pub plain_number : number (front text) ≡ positive (unsigned (digits_front 9 text))
-  plain_number = ap number plain_front ∙ cond-false (eqb (get_or (digits_front 9 text) 0 0) 45) _ _ (ne_eqb _ 45 no_sign)

@@ -48,11 +48,6 @@ number w = cond (slice_index w 0 == minus_sign) (negative (unsigned (drop 1 w)))
 abbrev pub written : ℤ → List ℕ
 written z = signed_decimal z
 
--- the sign that stands before a number that is negative or not
-abbrev pub sign : Bool → List ℕ
-sign true = minus_sign ∷ []
-sign false = []
-
 -- a word is a number exactly when it is how that number is written, and the number is a row value
 pub record Exactly (word : List ℕ) (r : Option ℤ) : Type 0 where
   pub again : (z : ℤ) → r ≡ Some z → RowValue z × (written z ≡ word)

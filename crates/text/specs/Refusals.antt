@@ -1,5 +1,5 @@
 -- What each refusal publishes. Assumes nothing.
-use Rattle.std.specs.Prelude.{ℕ, List, [], ◌∷◌}
+use Rattle.std.specs.Prelude.{ℕ, List, [], ◌∷◌, ◌++◌, codes, decimal}
 use Rattle.text.specs.declared.refusal.Refusal.{Refusal}
 use Rattle.text.specs.declared.refusal.Refusal.TheVariants.{PlanForm, NameTaken, UnknownField, PlanLimit, SheetLine, NotARow, FileForm, FileShape, TooManyRows, NoSuchColumn, NotABaseRow, BufferTooShort, FeedRange}
 
@@ -23,3 +23,13 @@ published NoSuchColumn = record { number = 11; place = [] }
 published NotABaseRow = record { number = 12; place = [] }
 published BufferTooShort = record { number = 14; place = [] }
 published FeedRange = record { number = 16; place = [] }
+
+-- a place as text: line and word, the line alone, or nothing
+abbrev pub place_text : List ℕ → List ℕ
+place_text [] = []
+place_text (line ∷ []) = codes ", line " ++ decimal line
+place_text (line ∷ word ∷ _) = codes ", line " ++ (decimal line ++ (codes ", word " ++ decimal word))
+
+-- a refusal as text, as in `number 3, line 4, word 6`
+abbrev pub refusal_text : Refusal → List ℕ
+refusal_text r = codes "number " ++ (decimal (published r).number ++ place_text (published r).place)

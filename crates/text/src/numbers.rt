@@ -2,7 +2,7 @@
 ghost use Rattle.std.specs.Prelude.{◌≡◌, ◌+◌, ◌-◌, ◌*◌, ◌^◌, ◌<◌, ◌≤◌, not, ◌&&◌, ltb, length, take, drop, pos, IfSome, if◌then◌else◌, Some, None, decimal, ◌==◌, int_lt, nat_le, nat_lt};
 ghost use Rattle.measures.specs.Values.{RowValue};
 ghost use Rattle.std.specs.Char.{is_ascii_digit};
-ghost use Rattle.text.specs.Numbers.{read_on, unsigned, number, positive, negative, front, digits_front, sign, written, over, has_room, Exactly};
+ghost use Rattle.text.specs.Numbers.{read_on, unsigned, number, positive, negative, front, digits_front, written, over, has_room, Exactly};
 
 // The most digits that a number in a text has.
 pub const MOST_DIGITS: usize = 9;
@@ -25,7 +25,7 @@ pub struct Front {
 fn is_digit(byte: u8) -> bool
     ensures { result ≡ is_ascii_digit byte }
 {
-    byte >= b'0' && byte <= b'9'
+    byte.is_ascii_digit()
 }
 
 // The number written by a digit after others.
@@ -34,7 +34,7 @@ fn with_digit(value: u32, digit: u8) -> u32
     requires digit { (48 ≤ digit) × (digit ≤ 57) }
     ensures { result ≡ value * 10 + (digit - 48) }
 {
-    value * 10 + (digit - b'0') as u32
+    value * 10 + u32::from(digit - b'0')
 }
 
 // The digits at the front of a text, nine at most: stops at the first byte that is none.
@@ -46,8 +46,11 @@ pub fn front_digits(text: &[u8]) -> Digits
 {
     let mut count = 0;
     let mut value = 0;
-    while count < MOST_DIGITS && count < text.len() && is_digit(text[count]) {
-        value = with_digit(value, text[count]);
+    for byte in &text[..text.len().min(MOST_DIGITS)] {
+        if !is_digit(*byte) {
+            break;
+        }
+        value = with_digit(value, *byte);
         count += 1;
     }
     Digits { count, value }
@@ -79,10 +82,7 @@ fn positive_number(n: Option<u32>) -> Option<i32>
     requires { IfSome n (λ m. m < 10 ^ 9) }
     ensures { result ≡ positive n }
 {
-    match n {
-        None => None,
-        Some(n) => Some(n as i32),
-    }
+    n.map(u32::cast_signed)
 }
 
 // A number without sign taken below zero; there is no negative zero.
@@ -91,13 +91,8 @@ fn negative_number(n: Option<u32>) -> Option<i32>
     ensures { result ≡ negative n }
 {
     match n {
-        None => None,
-        Some(n) => {
-            if n == 0 {
-                return None;
-            }
-            Some(-(n as i32))
-        }
+        None | Some(0) => None,
+        Some(n) => Some(-n.cast_signed()),
     }
 }
 
@@ -107,8 +102,7 @@ pub fn front_number(text: &[u8]) -> Front
     ensures number { result.number ≡ number (front text.now) }
     ensures within { result.length ≤ length text.now }
 {
-    if text.len() > 0 && text[0] == b'-' {
-        let rest = &text[1..];
+    if let [b'-', rest @ ..] = text {
         let digits = front_digits(rest);
         let number = negative_number(plain_number(rest, digits));
         return Front {
@@ -155,74 +149,25 @@ pub fn read_unsigned(word: &[u8]) -> Option<u32>
     plain_number(word, digits)
 }
 
-// How many digits a number has in decimal.
-fn decimal_length(n: u64) -> usize
-    ensures value { result ≡ length (decimal n) }
-    ensures short { result ≤ 20 }
-{
-    let mut rest = n;
-    let mut count = 1;
-    while rest >= 10 {
-        rest /= 10;
-        count += 1;
-    }
-    count
-}
-
-// The byte of a digit.
-fn digit_byte(digit: u64) -> u8
-    requires { digit < 10 }
-    ensures { result ≡ 48 + digit }
-{
-    b'0' + digit as u8
-}
-
-// Writes the digits of a number into a buffer from a place on, the last one first.
-fn write_digits(n: u64, buffer: &mut [u8], at: usize, count: usize)
-    requires count { count ≡ length (decimal n) }
-    requires room { at + count ≤ length buffer.old }
-    ensures { buffer.new ≡ over at (decimal n) buffer.old }
-{
-    let mut rest = n;
-    let mut end = at + count;
-    while rest >= 10 {
-        end -= 1;
-        buffer[end] = digit_byte(rest % 10);
-        rest /= 10;
-    }
-    buffer[at] = digit_byte(rest);
-}
-
-// Whether a number is below zero.
-fn is_negative(value: i64) -> bool
-    ensures { result ≡ int_lt value (pos 0) }
-{
-    value < 0
-}
-
-// How many bytes the sign of a number takes.
-fn sign_length(minus: bool) -> usize
-    ensures value { result ≡ length (sign minus) }
-    ensures short { result ≤ 1 }
-{
-    if minus { 1 } else { 0 }
-}
-
-// Writes the sign of a number into a buffer at a place: nothing before a number that is not negative.
-fn write_sign(minus: bool, buffer: &mut [u8], at: usize)
-    requires { at + length (sign minus) ≤ length buffer.old }
-    ensures { buffer.new ≡ over at (sign minus) buffer.old }
-{
-    if minus {
-        buffer[at] = b'-';
-    }
-}
-
 // Whether bytes fit into a buffer from a place on.
 fn fits(at: usize, count: usize, length: usize) -> bool
     ensures { result ≡ nat_le (at + count) length }
 {
     at <= length && count <= length - at
+}
+
+// Puts bytes into a buffer from a place on, and answers the place after them.
+// Without room for all of them nothing is written.
+fn put(bytes: &[u8], buffer: &mut [u8], at: usize) -> Option<usize>
+    ensures answer { result ≡ (if has_room at bytes.now buffer.old then Some (at + length bytes.now) else None) }
+    ensures bytes { buffer.new ≡ (if has_room at bytes.now buffer.old then over at bytes.now buffer.old else buffer.old) }
+{
+    if !fits(at, bytes.len(), buffer.len()) {
+        return None;
+    }
+    let end = at + bytes.len();
+    buffer[at..end].copy_from_slice(bytes);
+    Some(end)
 }
 
 // Writes a number in decimal into a buffer from a place on, and answers the place after it.
@@ -232,14 +177,6 @@ pub fn write_number(value: i64, buffer: &mut [u8], at: usize) -> Option<usize>
     ensures bytes { buffer.new ≡ (if has_room at (written value) buffer.old then over at (written value) buffer.old else buffer.old) }
     ensures back { RowValue value → IfSome result (λ end. number (take (end - at) (drop at buffer.new)) ≡ Some value) }
 {
-    let magnitude = value.unsigned_abs();
-    let digits = decimal_length(magnitude);
-    let minus = is_negative(value);
-    let sign = sign_length(minus);
-    if !fits(at, sign + digits, buffer.len()) {
-        return None;
-    }
-    write_sign(minus, buffer, at);
-    write_digits(magnitude, buffer, at + sign, digits);
-    Some(at + sign + digits)
+    let mut digits = itoa::Buffer::new();
+    put(digits.format(value).as_bytes(), buffer, at)
 }

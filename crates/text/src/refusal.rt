@@ -1,6 +1,9 @@
 // The refusals of the whole library: one enum, each case named by what it says.
-ghost use Rattle.std.specs.Prelude.{◌≡◌};
-ghost use Rattle.text.specs.Refusals.{published};
+ghost use Rattle.std.specs.Prelude.{◌≡◌, Some};
+ghost use Rattle.text.specs.Refusals.{published, refusal_text};
+
+use std::error::Error;
+use std::fmt;
 
 // Why a call refuses, with the place where there is one. Lines and words count from 1.
 #[derive(Clone, Copy, PartialEq, Eq, Debug)]
@@ -55,3 +58,31 @@ impl Refusal {
         }
     }
 }
+
+// Its number and its place.
+impl fmt::Display for Refusal {
+    ghost output = { λ r. Some (refusal_text r) };
+
+    fn fmt<W: fmt::Write>(&self, f: &mut fmt::Formatter<W>) -> fmt::Result {
+        let number = self.number();
+        match *self {
+            Refusal::PlanForm { line, word }
+            | Refusal::NameTaken { line, word }
+            | Refusal::UnknownField { line, word }
+            | Refusal::PlanLimit { line, word } => {
+                write!(f, "number {number}, line {line}, word {word}")
+            }
+            Refusal::SheetLine { line } => write!(f, "number {number}, line {line}"),
+            Refusal::NotARow
+            | Refusal::FileForm
+            | Refusal::FileShape
+            | Refusal::TooManyRows
+            | Refusal::NoSuchColumn
+            | Refusal::NotABaseRow
+            | Refusal::BufferTooShort
+            | Refusal::FeedRange => write!(f, "number {number}"),
+        }
+    }
+}
+
+impl Error for Refusal {}

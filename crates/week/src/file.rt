@@ -1,13 +1,14 @@
 // The games grouped by player, and the hall file of these groups.
 use crate::games::{WIDTH, unforeseen};
 use any_measure::any::{AnyMeasure, AnyValue};
-use anyhow::anyhow;
+use anyhow::{Context, anyhow};
 use cells::cell::Cell;
 use cells::id::GroupId;
 use cells::place::Place;
+use feeds::fault::Fault;
 use feeds::feed::Feed;
+use feeds::row::Row;
 use feeds::sheet::SheetFeed;
-use feeds::step::Step;
 use groups::held::{OpenGroups, SortedGroups};
 use hall_file::check::check;
 use hall_file::shape::ColumnShape;
@@ -24,12 +25,12 @@ const POINTS_FIELD: u8 = 3;
 const PLAYER_MASK: u8 = 1;
 
 // How many places for groups there are, and how long a file can be.
-const PLACES: u8 = 16;
+const PLACES: usize = 16;
 
 const BUFFER: usize = 128;
 
 // One row as a contribution to the score of its player.
-fn contribution(row: &[i32; 8]) -> Cell<AnyValue> {
+fn contribution(row: &Row) -> Cell<AnyValue> {
     let [player, _, _, points, ..] = *row;
     Cell {
         id: GroupId {
@@ -41,27 +42,14 @@ fn contribution(row: &[i32; 8]) -> Cell<AnyValue> {
     }
 }
 
-// Places that hold what they like.
-fn some_places(rt: &HostRuntime) -> anyhow::Result<Vec<Place<AnyValue>>> {
-    let mut places = Vec::new(rt.alloc());
-    for _ in 0..PLACES {
-        places.push(Place::new(contribution(&[0; 8])))?;
-    }
-    Ok(places)
-}
-
 // Adds each row of a feed to its group, and counts the rows.
-fn gather<F: Feed>(feed: &mut F, groups: &mut OpenGroups<AnyValue>) -> u32 {
+fn gather<F: Feed>(feed: &mut F, groups: &mut OpenGroups<AnyValue>) -> anyhow::Result<u32> {
     let mut rows: u32 = 0;
-    loop {
-        match feed.next() {
-            Step::Row(row) => {
-                let _ = groups.add(&SCORE, contribution(&row));
-                rows = rows.saturating_add(1);
-            }
-            Step::Ended(_) => return rows,
-        }
+    while let Ok(Some(row)) = feed.next() {
+        groups.add(&SCORE, contribution(&row))?;
+        rows = rows.saturating_add(1);
     }
+    Ok(rows)
 }
 
 // The groups in order, told one by one.
@@ -105,6 +93,13 @@ fn tell_bytes(rt: &HostRuntime, bytes: &[u8]) -> anyhow::Result<()> {
     Ok(())
 }
 
+// The part of a buffer that a file was written to.
+fn front(buffer: &[u8], length: usize) -> anyhow::Result<&[u8]> {
+    buffer
+        .get(..length)
+        .context("a file longer than its buffer")
+}
+
 // Writes the file of the groups, reads it again, and once more with one byte flipped.
 fn tell_file(rt: &HostRuntime, rows: u32, cells: &[Cell<AnyValue>]) -> anyhow::Result<()> {
     let shape = ColumnShape {
@@ -113,35 +108,24 @@ fn tell_file(rt: &HostRuntime, rows: u32, cells: &[Cell<AnyValue>]) -> anyhow::R
         mask: PLAYER_MASK,
     };
     let mut buffer = [0u8; BUFFER];
-    let length = match write(WIDTH as u8, rows, &[shape], cells, &mut buffer) {
-        Ok(length) => length,
-        Err(refusal) => return Err(unforeseen(refusal)),
-    };
-    let Some(bytes) = buffer.get(0..length) else {
-        return Err(anyhow!("a file longer than its buffer"));
-    };
+    let length = write(WIDTH as u8, rows, &[shape], cells, &mut buffer).map_err(unforeseen)?;
+    let bytes = front(&buffer, length)?;
     println!(rt; "Their hall file, {length} bytes:")?;
     tell_bytes(rt, bytes)?;
     tell_check(rt, bytes)?;
     println!(rt; "The same with one bit flipped:")?;
     buffer[7] ^= 1;
-    let Some(bytes) = buffer.get(0..length) else {
-        return Err(anyhow!("a file longer than its buffer"));
-    };
-    tell_check(rt, bytes)
+    tell_check(rt, front(&buffer, length)?)
 }
 
 // All games of a sheet grouped by player, and the hall file of these groups.
 pub(crate) fn tell_groups(rt: &HostRuntime, text: &[u8]) -> anyhow::Result<()> {
-    let mut sheet = match SheetFeed::new(text, WIDTH) {
-        Ok(sheet) => sheet,
-        Err(refusal) => return Err(unforeseen(refusal)),
+    let mut sheet = SheetFeed::new(text, WIDTH).map_err(unforeseen)?;
+    let places = vec![in rt.alloc(); Place::new(contribution(&[0; 8])); PLACES]?;
+    let Ok(mut groups) = OpenGroups::start(places) else {
+        return Err(anyhow!("too many places"));
     };
-    let mut groups = match OpenGroups::start(some_places(rt)?) {
-        Ok(groups) => groups,
-        Err(_) => return Err(anyhow!("too many places")),
-    };
-    let rows = gather(&mut sheet, &mut groups);
+    let rows = gather(&mut sheet, &mut groups)?;
     let sorted = groups.sort();
     let cells = cells_of(rt, &sorted)?;
     tell_file(rt, rows, cells.as_slice())

@@ -1,10 +1,10 @@
 // The games of one player, from a sheet of all games.
 use anyhow::anyhow;
-use feeds::fault::Layer;
+use feeds::fault::Fault;
 use feeds::feed::Feed;
+use feeds::row::Row;
 use feeds::section::Section;
 use feeds::sheet::SheetFeed;
-use feeds::step::{End, Step};
 use text::refusal::Refusal;
 
 // The player whose games are followed, and where a row has what.
@@ -39,13 +39,6 @@ fn result_name(points: i32) -> &'static str {
     }
 }
 
-fn layer_name(layer: Layer) -> &'static str {
-    match layer {
-        Layer::Sheet => "sheet",
-        Layer::Tally => "tally",
-    }
-}
-
 // A refusal that ends the account: the texts here are written so that none comes.
 pub(crate) fn unforeseen(refusal: Refusal) -> anyhow::Error {
     match refusal {
@@ -54,50 +47,43 @@ pub(crate) fn unforeseen(refusal: Refusal) -> anyhow::Error {
     }
 }
 
-fn tell_end(rt: &HostRuntime, end: End) -> anyhow::Result<()> {
-    match end {
-        End::Clean => println!(rt; "  the end, clean.")?,
-        End::Fault(fault) => {
-            let number = fault.number();
-            let layer = layer_name(fault.layer());
-            let place = fault.place();
-            println!(rt; "  refused: number {number}, {layer}, line {place}.")?;
-        }
-    }
+fn tell_end(rt: &HostRuntime, end: Result<(), Fault>) -> anyhow::Result<()> {
+    let Err(fault) = end else {
+        println!(rt; "  the end, clean.")?;
+        return Ok(());
+    };
+    let number = fault.number();
+    let layer = fault.layer();
+    let place = fault.place();
+    println!(rt; "  refused: number {number}, {layer}, line {place}.")?;
     Ok(())
 }
 
 // Tells a game, and gives its points.
-fn tell_game(rt: &HostRuntime, row: &[i32; 8]) -> anyhow::Result<i32> {
+fn tell_game(rt: &HostRuntime, row: &Row) -> anyhow::Result<i32> {
     let [_, round, opponent, scored, ..] = *row;
     let name = result_name(scored);
     println!(rt; "  round {round} against {opponent}: {name}, {scored}")?;
     Ok(scored)
 }
 
-// Takes the rows of a feed, tells each, and gives their points.
+// Takes the rows of a feed, tells each and the end, and gives their points.
 fn points_of<F: Feed>(rt: &HostRuntime, feed: &mut F) -> anyhow::Result<Vec<i32>> {
     let mut points = Vec::new(rt.alloc());
-    loop {
+    let end = loop {
         match feed.next() {
-            Step::Row(row) => {
-                let scored = tell_game(rt, &row)?;
-                points.push(scored)?;
-            }
-            Step::Ended(end) => {
-                tell_end(rt, end)?;
-                return Ok(points);
-            }
+            Ok(Some(row)) => points.push(tell_game(rt, &row)?)?,
+            Ok(None) => break Ok(()),
+            Err(fault) => break Err(fault),
         }
-    }
+    };
+    tell_end(rt, end)?;
+    Ok(points)
 }
 
 // The points of the player whose games are followed, from a sheet of all games.
 pub(crate) fn tell_games(rt: &HostRuntime, text: &[u8]) -> anyhow::Result<Vec<i32>> {
-    let sheet = match SheetFeed::new(text, WIDTH) {
-        Ok(sheet) => sheet,
-        Err(refusal) => return Err(unforeseen(refusal)),
-    };
+    let sheet = SheetFeed::new(text, WIDTH).map_err(unforeseen)?;
     match Section::new(sheet, PLAYER_FIELD, PLAYER) {
         Ok(mut games) => points_of(rt, &mut games),
         Err((_, refusal)) => Err(unforeseen(refusal)),

@@ -3,21 +3,6 @@ use any_measure::any::{AnyMeasure, AnyValue};
 use any_measure::over::answer_over;
 use measures::measure::Measure;
 use plan::reading::read_plan;
-use text::refusal::Refusal;
-
-fn tell_refused(rt: &HostRuntime, refusal: Refusal) -> anyhow::Result<()> {
-    let number = refusal.number();
-    match refusal {
-        Refusal::PlanForm { line, word }
-        | Refusal::NameTaken { line, word }
-        | Refusal::UnknownField { line, word }
-        | Refusal::PlanLimit { line, word } => {
-            println!(rt; "  refused: number {number}, line {line}, word {word}.")?;
-        }
-        _ => println!(rt; "  refused: number {number}.")?,
-    }
-    Ok(())
-}
 
 // Reads a plan, and tells what it has or where it is refused.
 pub(crate) fn tell_plan(rt: &HostRuntime, text: &[u8]) -> anyhow::Result<()> {
@@ -26,7 +11,7 @@ pub(crate) fn tell_plan(rt: &HostRuntime, text: &[u8]) -> anyhow::Result<()> {
             let columns = plan.len();
             println!(rt; "  accepted, columns: {columns}.")?;
         }
-        Err(refusal) => tell_refused(rt, refusal)?,
+        Err(refusal) => println!(rt; "  refused: {refusal}.")?,
     }
     Ok(())
 }
@@ -55,11 +40,9 @@ pub(crate) fn tell_standing(rt: &HostRuntime, points: &[i32]) -> anyhow::Result<
 
 // The value of some games: each one by itself, joined in turn.
 fn value_of(kind: AnyMeasure, points: &[i32]) -> AnyValue {
-    let mut value = kind.none();
-    for point in points {
-        value = kind.join(value, kind.one(&[*point]));
-    }
-    value
+    points.iter().fold(kind.none(), |value, point| {
+        kind.join(value, kind.one(&[*point]))
+    })
 }
 
 // Two evenings joined: two games on Friday, three on Saturday.

@@ -1,7 +1,8 @@
 -- Words in a fixed table. Assumes nothing.
-use Rattle.std.proofs.Common.{◌≡◌, ℕ, suc, ◌+◌, ◌<◌, ◌≤◌, min, Bool, true, false, cond, ltb, List, [], ◌∷◌, ◌++◌, map, length, get_or, take, drop, set, Some, None, ap, ◌∙◌, add-one, arith, drop-cons, Bor}
-use Rattle.std.proofs.lemmas.List.{drop_all, take_more_set, get_or-map, get_or-take, length-map, length-take}
+use Rattle.std.proofs.Common.{◌≡◌, ℕ, suc, ◌+◌, ◌<◌, ◌≤◌, min, Bool, true, false, cond, ltb, List, [], ◌∷◌, ◌++◌, map, length, take, set, Some, refl, ap, ◌∙◌, arith, Bor}
+use Rattle.std.proofs.lemmas.List.{take_more_set, length-map, length-take}
 use Rattle.std.proofs.lemmas.Bool.{cond-true, cond-false, lt-ltb, le-ltb}
+use Rattle.std.specs.List.{position_from}
 use Rattle.words.specs.Lexemes.{same}
 use Rattle.words.specs.Tables.{texts, place, added}
 use Rattle.words.specs.declared.names.Table.{Table}
@@ -14,26 +15,10 @@ read xs n = map (λ (w : Bor (List ℕ)). w.now) (take n xs)
 pub long : (xs : List (Bor (List ℕ))) (n : ℕ) → length (read xs n) ≡ min n (length xs)
 long xs n = simp (length-map, length-take)
 
--- a search that has come to the name i
-module _ (xs : List (Bor (List ℕ))) (n i : ℕ) where
-  front : (d : Bor (List ℕ)) → i < length (read xs n) → drop i (read xs n) ≡ (get_or xs i d).now ∷ drop (i + 1) (read xs n)
-  front d h =
-      let cut : i < length (take n xs) = simp length-take (omega (arith, long xs n, h)) in
-      let low : i < n = omega (arith, long xs n, h) in
-      let at : get_or (read xs n) i [] ≡ (get_or xs i d).now = get_or-map (λ (w : Bor (List ℕ)). w.now) (take n xs) i d [] cut ∙ ap (λ (w : Bor (List ℕ)). w.now) (get_or-take n xs i d low) in
-      rw add-one (drop-cons (read xs n) i [] h ∙ ap (λ x. x ∷ drop (suc i) (read xs n)) at)
-
-  -- the word is found there
-  pub hit : (d : Bor (List ℕ)) (w : List ℕ) → i < length (read xs n) → same (get_or xs i d).now w ≡ true → place (drop i (read xs n)) w i ≡ Some i
-  hit d w h e = ap (λ l. place l w i) (front d h) ∙ cond-true _ _ _ e
-
-  -- another word stands there
-  pub miss : (d : Bor (List ℕ)) (w : List ℕ) → i < length (read xs n) → same (get_or xs i d).now w ≡ false → place (drop i (read xs n)) w i ≡ place (drop (i + 1) (read xs n)) w (i + 1)
-  miss d w h e = ap (λ l. place l w i) (front d h) ∙ cond-false _ _ _ e
-
-  -- all names are passed
-  pub past : (w : List ℕ) → length (read xs n) ≤ i → place (drop i (read xs n)) w i ≡ None
-  past w h = ap (λ l. place l w i) (drop_all i (read xs n) h)
+-- a word is sought among the names themselves
+pub place_read : (xs : List (Bor (List ℕ))) (w : List ℕ) (k : ℕ) → position_from (λ (x : Bor (List ℕ)). same x.now w) k xs ≡ place (map (λ (x : Bor (List ℕ)). x.now) xs) w k
+place_read [] w k = refl
+place_read (x ∷ xs) w k = ap (cond (same x.now w) (Some k)) (place_read xs w (k + 1))
 
 -- a table holds at most eight names
 pub few_texts : (t : Table) → length (texts t) ≤ 8

@@ -1,8 +1,12 @@
 -- How a text is cut into words. Assumes nothing.
-use Rattle.std.specs.Prelude.{ℕ, Bool, true, false, cond, List, [], ◌∷◌, ◌==◌}
+use Rattle.std.specs.Prelude.{ℕ, Bool, true, false, cond, List, [], ◌∷◌, ◌==◌, ◌||◌}
 use Rattle.words.specs.Lexemes.{Lexeme, feed, cut, lexeme}
 use Rattle.words.specs.Spots.{Spot, spot}
 use Rattle.words.specs.declared.cursor.Words.{Words}
+
+-- a space or a line feed
+abbrev pub is_gap : ℕ → Bool
+is_gap b = b == 32 || b == 10
 
 -- the words from a line's beginning on, given its first word and those after it: none where the text ends there
 abbrev pub line : List ℕ → List ℕ × List Lexeme → List Lexeme

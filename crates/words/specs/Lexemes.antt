@@ -1,6 +1,8 @@
 -- What the words of a plan are. Assumes nothing.
-use Rattle.std.specs.Prelude.{ℕ, Bool, true, false, cond, ◌&&◌, List, [], ◌∷◌, length, ℤ, Some, None, codes, Option, ◌==◌, nat_le, nat_lt, slice_index_or}
+use Rattle.std.specs.Prelude.{ℕ, Bool, true, false, cond, ◌&&◌, List, length, ℤ, Some, None, codes, Option, ◌==◌, nat_le, nat_lt, slice_index_or, nat_eq}
 use Rattle.std.specs.Char.{is_ascii_lowercase, is_ascii_uppercase}
+use Rattle.std.specs.List.{list_all}
+use Rattle.std.specs.Cmp.Lexicographic.{pointwise}
 use Rattle.text.specs.Numbers as numbers
 use Rattle.words.specs.declared.signs.Mark.{Mark}
 use Rattle.words.specs.declared.signs.Mark.TheVariants as marks
@@ -36,36 +38,36 @@ seen (token.Other t line word) = other
 seen (token.LineEnd line word) = feed
 seen (token.TextEnd line word) = cut
 
--- the mark that one or two characters are; the second is a space where there is one only
-abbrev pub mark : ℕ → ℕ → Mark
+-- the mark that one or two characters are, if they are one; the second is a space where there is one only
+abbrev pub mark : ℕ → ℕ → Option Mark
 mark a b =
-    cond (a == 61) (cond (b == 32) (marks.Sign Equal) marks.NoMark)
-    (cond (a == 60) (cond (b == 32) (marks.Sign Less) (cond (b == 62) (marks.Sign Unequal) (cond (b == 61) (marks.Sign AtMost) marks.NoMark)))
-    (cond (a == 62) (cond (b == 32) (marks.Sign Greater) (cond (b == 61) (marks.Sign AtLeast) marks.NoMark))
-    (cond (a == 43) (cond (b == 32) (marks.Shift true) marks.NoMark)
-    (cond (a == 45) (cond (b == 32) (marks.Shift false) marks.NoMark)
-    (cond (a == 40) (cond (b == 32) (marks.Bracket true) marks.NoMark)
-    (cond (a == 41) (cond (b == 32) (marks.Bracket false) marks.NoMark) marks.NoMark))))))
+    cond (a == 61) (cond (b == 32) (Some (marks.Sign Equal)) None)
+    (cond (a == 60) (cond (b == 32) (Some (marks.Sign Less)) (cond (b == 62) (Some (marks.Sign Unequal)) (cond (b == 61) (Some (marks.Sign AtMost)) None)))
+    (cond (a == 62) (cond (b == 32) (Some (marks.Sign Greater)) (cond (b == 61) (Some (marks.Sign AtLeast)) None))
+    (cond (a == 43) (cond (b == 32) (Some (marks.Shift true)) None)
+    (cond (a == 45) (cond (b == 32) (Some (marks.Shift false)) None)
+    (cond (a == 40) (cond (b == 32) (Some (marks.Bracket true)) None)
+    (cond (a == 41) (cond (b == 32) (Some (marks.Bracket false)) None) None))))))
 
--- every byte of a text passes a test
-abbrev pub all_of : (ℕ → Bool) → List ℕ → Bool
-all_of f [] = true
-all_of f (b ∷ bs) = f b && all_of f bs
+-- one to eight bytes
+abbrev pub name_long : List ℕ → Bool
+name_long w = nat_lt 0 (length w) && nat_le (length w) 8
+
+-- one to eight bytes, each of which passes a test
+abbrev pub name_of : (ℕ → Bool) → List ℕ → Bool
+name_of test w = name_long w && list_all test w
 
 -- one to eight lower-case letters
 abbrev pub lower_name : List ℕ → Bool
-lower_name w = nat_lt 0 (length w) && (nat_le (length w) 8 && all_of is_ascii_lowercase w)
+lower_name w = name_of is_ascii_lowercase w
 
 -- one to eight upper-case letters
 abbrev pub upper_name : List ℕ → Bool
-upper_name w = nat_lt 0 (length w) && (nat_le (length w) 8 && all_of is_ascii_uppercase w)
+upper_name w = name_of is_ascii_uppercase w
 
--- two texts are the same
+-- two texts are the same: as long, and byte by byte
 abbrev pub same : List ℕ → List ℕ → Bool
-same [] [] = true
-same [] (b ∷ bs) = false
-same (a ∷ u) [] = false
-same (a ∷ u) (b ∷ bs) = a == b && same u bs
+same = pointwise nat_eq
 
 -- the keyword that a word is, if it is one
 abbrev pub keyword_of : List ℕ → Option Keyword
@@ -96,15 +98,15 @@ abbrev pub letters : List ℕ → Lexeme
 letters w = keyed (keyword_of w) (named w)
 
 -- the mark that a word is, if it is one
-abbrev pub mark_in : List ℕ → Mark
-mark_in w = cond (nat_lt 2 (length w)) marks.NoMark (mark (slice_index_or w 0 32) (slice_index_or w 1 32))
+abbrev pub mark_in : List ℕ → Option Mark
+mark_in w = cond (nat_lt 2 (length w)) None (mark (slice_index_or w 0 32) (slice_index_or w 1 32))
 
 -- a mark before letters
-abbrev pub marked : Mark → List ℕ → Lexeme
-marked (marks.Sign s) w = sign s
-marked (marks.Shift b) w = shift b
-marked (marks.Bracket b) w = bracket b
-marked marks.NoMark w = letters w
+abbrev pub marked : Option Mark → List ℕ → Lexeme
+marked (Some (marks.Sign s)) w = sign s
+marked (Some (marks.Shift b)) w = shift b
+marked (Some (marks.Bracket b)) w = bracket b
+marked None w = letters w
 
 -- a number before all else
 abbrev pub numbered : Option ℤ → Lexeme → Lexeme

@@ -1,6 +1,7 @@
 -- The names of a table. Assumes nothing.
-use Rattle.std.specs.Prelude.{ℕ, ◌+◌, min, cond, List, [], ◌∷◌, ◌++◌, map, length, take, Some, None, Option, nat_lt}
+use Rattle.std.specs.Prelude.{ℕ, min, cond, List, [], ◌∷◌, ◌++◌, map, length, take, Option, nat_lt}
 use Rattle.std.specs.Borrow.{Bor}
+use Rattle.std.specs.List.{position_from}
 use Rattle.words.specs.Lexemes.{same}
 use Rattle.words.specs.declared.names.Table.{Table}
 
@@ -10,8 +11,7 @@ texts n = map (λ (w : Bor (List ℕ)). w.now) (take (min n.used 8) n.words)
 
 -- where a word first stands among names, counted from k
 abbrev pub place : List (List ℕ) → List ℕ → ℕ → Option ℕ
-place [] w k = None
-place (x ∷ xs) w k = cond (same x w) (Some k) (place xs w (k + 1))
+place xs w k = position_from (λ x. same x w) k xs
 
 -- names and one more behind them, of eight at most
 abbrev pub added : List (List ℕ) → List ℕ → List (List ℕ)

@@ -13,51 +13,50 @@ pub enum Sign {
     AtLeast,
 }
 
-// What one or two characters are: a sign of comparison, `+` or `-`, a bracket, or none of these.
-#[derive(Clone, Copy)]
+// What one or two characters are: a sign of comparison, `+` or `-`, or an opening or closing bracket.
+#[derive(Clone, Copy, PartialEq, Eq, Debug)]
 pub enum Mark {
     Sign(Sign),
-    Shift(bool),
-    Bracket(bool),
-    NoMark,
+    Shift { plus: bool },
+    Bracket { opens: bool },
 }
 
-// The mark that one or two characters are; the second is a space where there is one only.
-pub fn mark_of(first: char, second: char) -> Mark
+// The mark that one or two characters are, if they are one; the second is a space where there is one only.
+pub fn mark_of(first: char, second: char) -> Option<Mark>
     ensures { result ≡ mark first second }
 {
     match first {
         '=' => match second {
-            ' ' => Mark::Sign(Sign::Equal),
-            _ => Mark::NoMark,
+            ' ' => Some(Mark::Sign(Sign::Equal)),
+            _ => None,
         },
         '<' => match second {
-            ' ' => Mark::Sign(Sign::Less),
-            '>' => Mark::Sign(Sign::Unequal),
-            '=' => Mark::Sign(Sign::AtMost),
-            _ => Mark::NoMark,
+            ' ' => Some(Mark::Sign(Sign::Less)),
+            '>' => Some(Mark::Sign(Sign::Unequal)),
+            '=' => Some(Mark::Sign(Sign::AtMost)),
+            _ => None,
         },
         '>' => match second {
-            ' ' => Mark::Sign(Sign::Greater),
-            '=' => Mark::Sign(Sign::AtLeast),
-            _ => Mark::NoMark,
+            ' ' => Some(Mark::Sign(Sign::Greater)),
+            '=' => Some(Mark::Sign(Sign::AtLeast)),
+            _ => None,
         },
         '+' => match second {
-            ' ' => Mark::Shift(true),
-            _ => Mark::NoMark,
+            ' ' => Some(Mark::Shift { plus: true }),
+            _ => None,
         },
         '-' => match second {
-            ' ' => Mark::Shift(false),
-            _ => Mark::NoMark,
+            ' ' => Some(Mark::Shift { plus: false }),
+            _ => None,
         },
         '(' => match second {
-            ' ' => Mark::Bracket(true),
-            _ => Mark::NoMark,
+            ' ' => Some(Mark::Bracket { opens: true }),
+            _ => None,
         },
         ')' => match second {
-            ' ' => Mark::Bracket(false),
-            _ => Mark::NoMark,
+            ' ' => Some(Mark::Bracket { opens: false }),
+            _ => None,
         },
-        _ => Mark::NoMark,
+        _ => None,
     }
 }

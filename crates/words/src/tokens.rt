@@ -1,7 +1,7 @@
 // What a word of a plan is.
-ghost use Rattle.std.specs.Prelude.{◌≡◌, slice_index_or};
-ghost use Rattle.std.specs.Char.{is_ascii_lowercase, is_ascii_uppercase};
-ghost use Rattle.words.specs.Lexemes.{seen, all_of, same, keyword_of, letters, lexeme, mark_in, marked, lower_name, upper_name};
+ghost use Rattle.std.specs.Prelude.{◌≡◌, ℕ, Bool};
+ghost use Rattle.std.specs.Fn.{FnReturnsAt};
+ghost use Rattle.words.specs.Lexemes.{seen, keyword_of, letters, lexeme, mark_in, marked, name_long, name_of};
 ghost use Rattle.words.specs.Spots.{spot, token_spot};
 
 use crate::signs::{Mark, Sign, mark_of};
@@ -27,7 +27,8 @@ pub enum Keyword {
 }
 
 // A word of a plan, or what stands where a word is missing: the line's end or the end of the text.
-// `line` and `word` count from 1.
+// `line` and `word` count from 1. `upper`, `plus` and `opens` are a yes or no under its name: an enum for each of the
+// three would have the same two cases and be no plainer.
 #[derive(Clone, Copy)]
 pub enum Token<'a> {
     Name {
@@ -81,170 +82,117 @@ pub enum Token<'a> {
     },
 }
 
-// Whether a text is made of lower-case letters.
-fn all_lower(text: &[u8]) -> bool
-    ensures { result ≡ all_of is_ascii_lowercase text.now }
-{
-    for b in text {
-        if !b.is_ascii_lowercase() {
-            return false;
-        }
-    }
-    true
+// A word as it stands in the text, with its place.
+#[derive(Clone, Copy)]
+struct Placed<'a> {
+    text: &'a [u8],
+    line: usize,
+    word: usize,
 }
 
-// Whether a text is made of upper-case letters.
-fn all_upper(text: &[u8]) -> bool
-    ensures { result ≡ all_of is_ascii_uppercase text.now }
+// Whether a text is as long as a name is.
+fn is_name_long(text: &[u8]) -> bool
+    ensures { result ≡ name_long text.now }
 {
-    for b in text {
-        if !b.is_ascii_uppercase() {
-            return false;
-        }
-    }
-    true
+    !text.is_empty() && text.len() <= MOST_LETTERS
 }
 
-// Whether a text is a name in lower case.
-fn is_lower_name(text: &[u8]) -> bool
-    ensures { result ≡ lower_name text.now }
+// Whether a text is a name of such letters.
+fn is_name<F: Fn(&u8) -> bool>(text: &[u8], is_letter: F) -> bool
+    requires { F.IsAlwaysCallable is_letter }
+    ensures { (test : ℕ → Bool) → ((b : ℕ) (r : Bool) → FnReturnsAt F.Fn is_letter b r → r ≡ test b) → result ≡ name_of test text.now }
 {
-    text.len() > 0 && text.len() <= MOST_LETTERS && all_lower(text)
-}
-
-// Whether a text is a name in upper case.
-fn is_upper_name(text: &[u8]) -> bool
-    ensures { result ≡ upper_name text.now }
-{
-    text.len() > 0 && text.len() <= MOST_LETTERS && all_upper(text)
-}
-
-// Whether a text is that word.
-pub fn is_same(text: &[u8], word: &[u8]) -> bool
-    ensures { result ≡ same text.now word.now }
-{
-    if text.len() != word.len() {
-        return false;
-    }
-    for i in 0..text.len() {
-        if text[i] != word[i] {
-            return false;
-        }
-    }
-    true
+    is_name_long(text) && text.iter().all(is_letter)
 }
 
 // The keyword that a text is, if it is one.
 fn keyword_of(text: &[u8]) -> Option<Keyword>
     ensures { result ≡ keyword_of text.now }
 {
-    if is_same(text, b"rows") {
-        Some(Keyword::Rows)
-    } else if is_same(text, b"base") {
-        Some(Keyword::Base)
-    } else if is_same(text, b"where") {
-        Some(Keyword::Where)
-    } else if is_same(text, b"and") {
-        Some(Keyword::And)
-    } else if is_same(text, b"or") {
-        Some(Keyword::Or)
-    } else if is_same(text, b"not") {
-        Some(Keyword::Not)
-    } else if is_same(text, b"count") {
-        Some(Keyword::Count)
-    } else if is_same(text, b"sum") {
-        Some(Keyword::Sum)
-    } else if is_same(text, b"least") {
-        Some(Keyword::Least)
-    } else if is_same(text, b"greatest") {
-        Some(Keyword::Greatest)
-    } else if is_same(text, b"mean") {
-        Some(Keyword::Mean)
-    } else {
-        None
+    match text {
+        b"rows" => Some(Keyword::Rows),
+        b"base" => Some(Keyword::Base),
+        b"where" => Some(Keyword::Where),
+        b"and" => Some(Keyword::And),
+        b"or" => Some(Keyword::Or),
+        b"not" => Some(Keyword::Not),
+        b"count" => Some(Keyword::Count),
+        b"sum" => Some(Keyword::Sum),
+        b"least" => Some(Keyword::Least),
+        b"greatest" => Some(Keyword::Greatest),
+        b"mean" => Some(Keyword::Mean),
+        _ => None,
     }
 }
 
-// A keyword, a name, or neither.
-fn letters_of<'a>(text: &'a [u8], line: usize, word: usize) -> Token<'a>
-    ensures seen { seen result ≡ letters text.now }
-    ensures place { token_spot result ≡ spot line word }
-{
-    match keyword_of(text) {
-        Some(keyword) => Token::Reserved {
-            text,
-            keyword,
-            line,
-            word,
-        },
-        None => {
-            if is_lower_name(text) {
-                Token::Name {
-                    text,
-                    upper: false,
-                    line,
-                    word,
-                }
-            } else if is_upper_name(text) {
-                Token::Name {
-                    text,
-                    upper: true,
-                    line,
-                    word,
-                }
-            } else {
-                Token::Other { text, line, word }
-            }
-        }
-    }
-}
-
-// A byte of a text; past its end, a space.
-fn byte_or_space(text: &[u8], i: usize) -> u8
-    ensures { result ≡ slice_index_or text.now i 32 }
-{
-    if i < text.len() { text[i] } else { b' ' }
-}
-
-// The mark that a word of one or two bytes is.
-fn mark_in(text: &[u8]) -> Mark
+// The mark that a word of one or two bytes is, if it is one.
+fn mark_in(text: &[u8]) -> Option<Mark>
     ensures { result ≡ mark_in text.now }
 {
-    if text.len() > 2 {
-        Mark::NoMark
-    } else {
-        mark_of(
-            byte_or_space(text, 0) as char,
-            byte_or_space(text, 1) as char,
-        )
+    match text {
+        [only] => mark_of(char::from(*only), ' '),
+        [first, second] => mark_of(char::from(*first), char::from(*second)),
+        _ => None,
     }
 }
 
-// A mark, a keyword, a name, or none of these.
-fn unnumbered<'a>(text: &'a [u8], line: usize, word: usize) -> Token<'a>
-    ensures seen { seen result ≡ marked (mark_in text.now) text.now }
-    ensures place { token_spot result ≡ spot line word }
-{
-    match mark_in(text) {
-        Mark::Sign(sign) => Token::Sign {
-            text,
-            sign,
-            line,
-            word,
-        },
-        Mark::Shift(plus) => Token::Shift {
-            text,
-            plus,
-            line,
-            word,
-        },
-        Mark::Bracket(opens) => Token::Bracket {
-            text,
-            opens,
-            line,
-            word,
-        },
-        Mark::NoMark => letters_of(text, line, word),
+impl<'a> Placed<'a> {
+    // A keyword, a name, or neither.
+    fn letters(self) -> Token<'a>
+        ensures seen { seen result ≡ letters self.entry.text.now }
+        ensures place { token_spot result ≡ spot self.entry.line self.entry.word }
+    {
+        let Placed { text, line, word } = self;
+        match keyword_of(text) {
+            Some(keyword) => Token::Reserved {
+                text,
+                keyword,
+                line,
+                word,
+            },
+            None if is_name(text, |b| b.is_ascii_lowercase()) => Token::Name {
+                text,
+                upper: false,
+                line,
+                word,
+            },
+            None if is_name(text, |b| b.is_ascii_uppercase()) => Token::Name {
+                text,
+                upper: true,
+                line,
+                word,
+            },
+            None => Token::Other { text, line, word },
+        }
+    }
+
+    // A mark, a keyword, a name, or none of these.
+    fn unnumbered(self) -> Token<'a>
+        ensures seen { seen result ≡ marked (mark_in self.entry.text.now) self.entry.text.now }
+        ensures place { token_spot result ≡ spot self.entry.line self.entry.word }
+    {
+        let Placed { text, line, word } = self;
+        match mark_in(text) {
+            Some(Mark::Sign(sign)) => Token::Sign {
+                text,
+                sign,
+                line,
+                word,
+            },
+            Some(Mark::Shift { plus }) => Token::Shift {
+                text,
+                plus,
+                line,
+                word,
+            },
+            Some(Mark::Bracket { opens }) => Token::Bracket {
+                text,
+                opens,
+                line,
+                word,
+            },
+            None => self.letters(),
+        }
     }
 }
 
@@ -260,6 +208,6 @@ pub fn token_of<'a>(text: &'a [u8], line: usize, word: usize) -> Token<'a>
             line,
             word,
         },
-        None => unnumbered(text, line, word),
+        None => Placed { text, line, word }.unnumbered(),
     }
 }

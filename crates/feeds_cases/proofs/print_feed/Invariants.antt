@@ -1,5 +1,5 @@
 use Rattle.std.proofs.Common.{length}
 use Rattle.feeds_cases.proofs.print_feed.Given as goal
 
-abbrev pub decreases-loop-row : goal.decreases-loop-row
-decreases-loop-row g l = length (g.F.Feed.coming l.feed)
+abbrev pub decreases-loop : goal.decreases-loop
+decreases-loop g l = length (g.F.Feed.coming l.feed)

@@ -4,7 +4,7 @@ ghost use Rattle.cells.specs.Groups.{lookup};
 ghost use Rattle.cells.specs.Contributions.{there, begins as has_begun, beginning, ids as ids_of, heard_on};
 ghost use Rattle.groups.specs.Held.{open_groups, Starting, Adding, Sorting};
 
-use crate::added::Added;
+use crate::added::{Added, NoRoom};
 use crate::chains;
 use crate::held::{OpenGroups, SortedGroups};
 use cells::cell::Cell;
@@ -52,10 +52,8 @@ impl<V: Copy> OpenGroups<V> {
     pub fn find(&self, id: &GroupId) -> Option<Cell<V>>
         ensures { result ≡ lookup id.now (open_groups self.now) }
     {
-        match chains::seek(self.places.as_slice(), self.used, id) {
-            Some(i) => Some(self.places[i].cell),
-            None => None,
-        }
+        let i = chains::seek(self.places.as_slice(), self.used, id)?;
+        Some(self.places[i].cell)
     }
 
     // Whether the group is there.
@@ -69,11 +67,7 @@ impl<V: Copy> OpenGroups<V> {
     fn begins(&self, id: &GroupId, later: &[GroupId]) -> bool
         ensures { result ≡ has_begun id.now later.now (open_groups self.now) }
     {
-        if self.has(id) {
-            false
-        } else {
-            !listed(id, later)
-        }
+        !self.has(id) && !listed(id, later)
     }
 
     // How many groups contributions with these ids would begin. An id that stands more than once
@@ -83,26 +77,27 @@ impl<V: Copy> OpenGroups<V> {
         ensures exact { (joins : ℕ → V → V → V) (xs : List (Cell V)) → ids_of xs ≡ ids.now → length (heard_on joins (open_groups self.now) xs) ≡ length (open_groups self.now) + result }
     {
         let mut n = 0;
-        for i in 0..ids.len() {
-            if self.begins(&ids[i], &ids[i + 1..]) {
+        let mut rest = ids;
+        while let Some((id, later)) = rest.split_first() {
+            if self.begins(id, later) {
                 n += 1;
             }
+            rest = later;
         }
         n
     }
 
     // A contribution: its group has grown by it, or is new; where there is no room, nothing changes.
-    pub fn add<M: Measure<Value = V>>(&mut self, measure: &M, new: Cell<V>) -> Added
+    pub fn add<M: Measure<Value = V>>(&mut self, measure: &M, new: Cell<V>) -> Result<Added, NoRoom>
         ensures { Adding (M.Measure.meaning measure.now).join new self.old self.new result }
     {
         let used = self.used;
-        match chains::put(measure, self.places.as_mut_slice(), used, new) {
-            Added::Grown => Added::Grown,
+        match chains::put(measure, self.places.as_mut_slice(), used, new)? {
+            Added::Grown => Ok(Added::Grown),
             Added::Begun => {
                 self.used = used + 1;
-                Added::Begun
+                Ok(Added::Begun)
             }
-            Added::NoRoom => Added::NoRoom,
         }
     }
 

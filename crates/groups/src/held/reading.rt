@@ -13,7 +13,7 @@ fn front<V>(places: &[Place<V>], n: usize) -> &[Place<V>]
     requires { n ≤ length places.now }
     ensures { result.now ≡ take n places.now }
 {
-    &places[0..n]
+    &places[..n]
 }
 
 impl<V: Copy> SortedGroups<V> {

@@ -4,5 +4,5 @@ use Rattle.conditions.proofs.keys.row_of_key.Given as goal
 
 abbrev pub invariant-loop-i : goal.invariant-loop-i
 invariant-loop-i l =
-    (l.next ≤ l.i) × (length l.row ≡ 8) × (take l.i l.row ++ spread (drop l.i l.fields) (drop l.next l.key) ≡ spread l.fields l.key)
+    (length l.row ≡ 8) × (take l.i l.row ++ spread (drop l.i l.fields) l.rest ≡ spread l.fields l.key)
     × ((k : ℕ) → l.i ≤ k → get_or l.row k (pos 0) ≡ pos 0)

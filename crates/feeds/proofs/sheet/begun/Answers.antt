@@ -8,10 +8,11 @@ use Rattle.feeds.proofs.sheet.begun.Goals as goal
 pub returns : goal.returns
 returns c =
     let text = c.args.text.now in
-    let r = width_range c.args.width c.requires in
+    let w = c.args.width.fields in
+    let r = width_range w c.args.width.in_range in
     record {
       width = refl;
       coming = refl;
-      ending = held_all 1 (sheet c.args.width text) (omega (arith, sheet_few c.args.width text));
-      exactly = exactly_written c.args.width text r.0 r.1;
+      ending = held_all 1 (sheet w text) (omega (arith, sheet_few w text));
+      exactly = exactly_written w text r.0 r.1;
     }

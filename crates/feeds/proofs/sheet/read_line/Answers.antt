@@ -1,52 +1,71 @@
-use Rattle.std.proofs.Common.{◌+◌, ◌&&◌, eqb, ltb, length, get_or, set, sym, refl, ap, ◌∙◌, subst, w32, SFits, rules}
-use Rattle.std.proofs.lemmas.List.{take_rest}
+use Rattle.std.proofs.Common.{◌≡◌, ℕ, ◌<◌, ℤ, set, to_z, of_z, length, take, List, [], ◌∷◌, false, true, ◌+◌, drop, nat_eq, sym, ap, ◌∙◌, subst, arith, w32, SFits, rules}
+use Rattle.std.specs.Cmp.Lexicographic.{pointwise, same_text, other_text}
 use Rattle.std.proofs.lemmas.Int.{to_z-of_z}
-use Rattle.text.specs.Numbers.{front, number}
-use Rattle.feeds.proofs.Fields.{sheet_bad, sheet_none}
+use Rattle.std.specs.List.{between}
+use Rattle.std.proofs.lemmas.List.{length-take, take_rest}
+use Rattle.text.specs.Numbers.{front}
+use Rattle.feeds.specs.SheetFeeds.{LineRead}
+use Rattle.feeds.proofs.Fields.{sheet_bad, sheet_got}
 use Rattle.feeds.proofs.Passing.{Passed, width_range, passed_none, passed_more, passed_no_number, passed_no_follower, passed_all}
 use Rattle.feeds.proofs.sheet.read_line.Goals as goal
 
-pub returns-then-not-is_width : goal.returns-then-not-is_width
-returns-then-not-is_width c = sheet_none c.args.width c.args.text.now (sym c.if-not-is_width.ensures)
-
 pub loop-k-init : goal.loop-k-init
-loop-k-init c = passed_none c.args.text.now c.args.width _ refl
+loop-k-init c = passed_none c.args.text.now c.args.width.fields []
 
-pub returns-in_default : goal.returns-in_default
-returns-in_default c =
+pub returns-in_err-place : goal.returns-in_err-place
+returns-in_err-place c =
     let l = c.loop-k in
     let text = c.args.text.now in
-    let e = c.front_number-front.ensures in
-    let rest = take_rest text l.at in
-    sheet_bad c.args.width text (width_range c.args.width (sym c.if-not-is_width.ensures)).0
-    (passed_no_number text c.args.width l.row l.k l.at _ l.invariant c.loop-k-test.true (e.length ∙ ap (λ t. length (front t)) rest) (sym (e.number ∙ ap (λ t. number (front t)) rest) ∙ c.in_default.is))
+    let w = c.args.width.fields in
+    let r = width_range w c.args.width.in_range in
+    let below : l.k < w = omega (arith, length-take {A = ℤ}, r.1) in
+    let none = sym c.front_number-front.ensures.number ∙ c.in_err-place.was in
+    subst (LineRead w text) (sym c.from_residual.ensures) (sheet_bad w text r.0 (passed_no_number text w l.place-items l.k l.rest.now l.invariant below none))
 
-pub returns-then-not-has_byte : goal.returns-then-not-has_byte
-returns-then-not-has_byte c =
+-- the text behind its front
+behind : (t : List ℕ) (n : ℕ) → n ≡ length (front t) → between n (length t) t ≡ drop (length (front t)) t
+behind t n e = take_rest t n ∙ ap (λ m. drop m t) e
+
+pub returns-in_err-rest : goal.returns-in_err-rest
+returns-in_err-rest c =
     let l = c.loop-k in
     let text = c.args.text.now in
-    let e = c.front_number-front.ensures in
+    let w = c.args.width.fields in
+    let r = width_range w c.args.width.in_range in
+    let t = l.rest.now in
     let n = c.front_number-front.result.length in
-    let rest = take_rest text l.at in
-    sheet_bad c.args.width text (width_range c.args.width (sym c.if-not-is_width.ensures)).0
-    (passed_no_follower text c.args.width l.row l.k l.at n l.invariant c.loop-k-test.true (e.length ∙ ap (λ t. length (front t)) rest)
-    (c.if-not-has_byte.ensures ∙ ap (λ s. ltb (l.at + n) (length text) && eqb (get_or text (l.at + n) 0) s) c.separator.ensures))
+    let below : l.k < w = omega (arith, length-take {A = ℤ}, r.1) in
+    let other : pointwise nat_eq (take 1 (between n (length t) t)) (c.separator.result ∷ []) ≡ false = c.in_err-rest.ensures.cases in
+    let here = behind t n c.front_number-front.ensures.length in
+    subst (LineRead w text) (sym c.from_residual-in_err-rest.ensures) (sheet_bad w text r.0 (passed_no_follower text w l.place-items l.k t l.invariant below
+    (λ q. other_text _ _ (sym other) (ap (take 1) here ∙ q ∙ ap (λ b. b ∷ []) (sym c.separator.ensures)))))
 
 pub loop-k-preserved : goal.loop-k-preserved
 loop-k-preserved c =
     let l = c.loop-k in
     let text = c.args.text.now in
-    let e = c.front_number-front.ensures in
+    let w = c.args.width.fields in
+    let r = width_range w c.args.width.in_range in
+    let t = l.rest.now in
     let n = c.front_number-front.result.length in
-    let rest = take_rest text l.at in
-    let fits : SFits w32 c.in-Some.value = search rules in
-    subst (λ z. Passed text c.args.width (set l.row l.k z) (l.k + 1) (l.at + n + 1)) (sym (to_z-of_z w32 c.in-Some.value fits))
-    (passed_more text c.args.width l.row l.k l.at n l.invariant c.loop-k-test.true (e.length ∙ ap (λ t. length (front t)) rest) c.in-Some.value
-    (width_range c.args.width (sym c.if-not-is_width.ensures)).1 (sym (e.number ∙ ap (λ t. number (front t)) rest) ∙ c.in-Some.is)
-    (c.if-not-has_byte.ensures ∙ ap (λ s. ltb (l.at + n) (length text) && eqb (get_or text (l.at + n) 0) s) c.separator.ensures))
+    let z = c.in_ok-place.field-0 in
+    let below : l.k < w = omega (arith, length-take {A = ℤ}, r.1) in
+    let place : l.k < length l.place-items = omega arith in
+    let fits : SFits w32 z = search rules in
+    let part = between n (length t) t in
+    let h : (pointwise nat_eq (take 1 part) (c.separator.result ∷ []) ≡ true) × (c.in_ok-rest.rest.now ≡ drop 1 part) × (length c.in_ok-rest.rest.now + 1 ≡ length part) = c.in_ok-rest.ensures.cases in
+    let here = behind t n c.front_number-front.ensures.length in
+    let byte = sym (ap (take 1) here) ∙ same_text _ _ (sym h.0) ∙ ap (λ b. b ∷ []) c.separator.ensures in
+    let more = passed_more text w l.place-items l.k t l.invariant below z place (sym c.front_number-front.ensures.number ∙ c.in_ok-place.was) byte in
+    subst (λ x. Passed text w (set l.place-items l.k (to_z w32 (of_z w32 z))) (l.k + 1) x) (sym (h.1 ∙ ap (drop 1) here))
+    (subst (λ y. Passed text w (set l.place-items l.k y) (l.k + 1) (drop 1 (drop (length (front t)) t))) (sym (to_z-of_z w32 z fits)) more)
 
 pub returns : goal.returns
 returns c =
     let l = c.loop-k in
-    let r = width_range c.args.width (sym c.if-not-is_width.ensures) in
-    (l.invariant.within, passed_all c.args.text.now c.args.width l.row l.k l.at l.invariant c.loop-k-test.false l.auto.k-end r.0 r.1)
+    let text = c.args.text.now in
+    let w = c.args.width.fields in
+    let r = width_range w c.args.width.in_range in
+    let all : l.k ≡ w = omega (arith, length-take {A = ℤ}, r.1) in
+    let long : length l.place-items ≡ w = omega (arith, length-take {A = ℤ}, r.1) in
+    sheet_got w text l.rest.now _ r.0 r.1 (passed_all text w l.place-items _ l.k l.rest.now l.invariant all long)

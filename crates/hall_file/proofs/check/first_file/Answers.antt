@@ -2,7 +2,7 @@
 use Rattle.std.proofs.Common.{sym, subst}
 use Rattle.hall_file.specs.Views.{FirstFile}
 use Rattle.hall_file.proofs.Forms.{Lawful}
-use Rattle.hall_file.proofs.Checks.{no_head, no_columns, few_fields, few_rows, parts, front, no_longer}
+use Rattle.hall_file.proofs.Checks.{no_head, no_columns, parts, front, no_longer}
 use Rattle.hall_file.proofs.check.first_file.Given.{Over}
 use Rattle.hall_file.proofs.check.first_file.Goals as goal
 
@@ -11,13 +11,6 @@ laws g = record { keeps = g.met.M.Measure.keeps; formed = g.met.M.Measure.formed
 
 pub returns-in_err-head : goal.returns-in_err-head
 returns-in_err-head g c = subst (FirstFile g.M.Measure.meaning c.args.bytes.now) (sym c.from_residual.ensures) (no_head (laws g) c.args.bytes.now c.in_err-head.ensures)
-
-pub take_columns-requires : goal.take_columns-requires
-take_columns-requires g c =
-    record {
-      fields = few_fields (laws g) c.args.bytes.now c.in_ok-head.head c.in_ok-head.body.now c.in_ok-head.ensures;
-      rows = few_rows (laws g) c.args.bytes.now c.in_ok-head.head c.in_ok-head.body.now c.in_ok-head.ensures;
-    }
 
 pub returns-in_err-rest : goal.returns-in_err-rest
 returns-in_err-rest g c = subst (FirstFile g.M.Measure.meaning c.args.bytes.now) (sym c.from_residual-in_err-rest.ensures) (no_columns (laws g) c.args.bytes.now c.in_ok-head.head c.in_ok-head.body.now c.in_ok-head.ensures c.in_err-rest.ensures)

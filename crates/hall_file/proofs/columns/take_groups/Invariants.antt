@@ -1,11 +1,9 @@
--- The groups left give the same end; no more rows are left than there were.
-use Rattle.std.proofs.Common.{◌≡◌, ◌≤◌, None}
+-- The groups left give the same end.
+use Rattle.std.proofs.Common.{◌≡◌, ◌-◌, ◌≤◌, None}
 use Rattle.readers.specs.Readers.{after}
+use Rattle.hall_file.specs.Written.{width}
 use Rattle.hall_file.specs.Reading.{groups}
 use Rattle.hall_file.proofs.columns.take_groups.Given as goal
 
-abbrev pub invariant-loop-groups_left : goal.invariant-loop-groups_left
-invariant-loop-groups_left g l = (after (groups g.M.Measure.meaning l.shape l.count None l.all l.bytes) ≡ after (groups g.M.Measure.meaning l.shape l.groups_left l.last l.rows_left l.rest)) × (l.rows_left ≤ l.all)
-
-abbrev pub decreases-loop-groups_left : goal.decreases-loop-groups_left
-decreases-loop-groups_left g l = l.groups_left
+abbrev pub invariant-loop : goal.invariant-loop
+invariant-loop g l = width l.shape ≤ 4 → after (groups g.M.Measure.meaning l.shape l.count None l.all l.bytes) ≡ after (groups g.M.Measure.meaning l.shape (l.count - l.counter) l.last l.rows_left l.rest)

@@ -18,11 +18,11 @@ returns-in_default c =
 pub returns-then-not-is_version : goal.returns-then-not-is_version
 returns-then-not-is_version c = head_no c.args.bytes.now (λ h. both_ways _ (sym c.if-not-is_version.ensures) (eq-eqb _ 1 h.version))
 
-pub returns-then-not-is_field_count : goal.returns-then-not-is_field_count
-returns-then-not-is_field_count c = head_no c.args.bytes.now (λ h. both_ways _ (sym c.if-not-is_field_count.ensures) (and_from _ _ (le-leb 1 _ h.fields_some) (le-leb _ 8 h.fields_few)))
+pub returns-then-not-is_one_to : goal.returns-then-not-is_one_to
+returns-then-not-is_one_to c = head_no c.args.bytes.now (λ h. both_ways _ (sym c.if-not-is_one_to.ensures) (and_from _ _ (le-leb 1 _ h.fields_some) (le-leb _ 8 h.fields_few)))
 
-pub returns-then-not-is_column_count : goal.returns-then-not-is_column_count
-returns-then-not-is_column_count c = head_no c.args.bytes.now (λ h. both_ways _ (sym c.if-not-is_column_count.ensures) (and_from _ _ (le-leb 1 _ h.columns_some) (le-leb _ 8 h.columns_few)))
+pub returns-then-not-is_one_to-2 : goal.returns-then-not-is_one_to-2
+returns-then-not-is_one_to-2 c = head_no c.args.bytes.now (λ h. both_ways _ (sym c.if-not-is_one_to-2.ensures) (and_from _ _ (le-leb 1 _ h.columns_some) (le-leb _ 8 h.columns_few)))
 
 pub returns-then-not-is_row_count : goal.returns-then-not-is_row_count
 returns-then-not-is_row_count c =
@@ -34,8 +34,8 @@ returns c =
     let bs = c.args.bytes.now in
     let e = c.from_le_bytes-rows.ensures in
     let v = eqb-true (get_or bs 3 0 + get_or bs 4 0 * 256) 1 (sym c.if-not-is_version.ensures) in
-    let f = and_parts (leb 1 (get_or bs 5 0)) (leb (get_or bs 5 0) 8) (sym c.if-not-is_field_count.ensures) in
-    let k = and_parts (leb 1 (get_or bs 6 0)) (leb (get_or bs 6 0) 8) (sym c.if-not-is_column_count.ensures) in
+    let f = and_parts (leb 1 (get_or bs 5 0)) (leb (get_or bs 5 0) 8) (sym c.if-not-is_one_to.ensures) in
+    let k = and_parts (leb 1 (get_or bs 6 0)) (leb (get_or bs 6 0) 8) (sym c.if-not-is_one_to-2.ensures) in
     let n = leb-true c.from_le_bytes-rows.result 1000000 (sym c.if-not-is_row_count.ensures) in
     head_yes bs (λ i. (c.type_inv.bytes i).fits)
     (record { long = omega (arith, ltb-false); t = omega arith; l = omega arith; y = omega arith; version = v; fields_some = leb-true 1 _ f.0; fields_few = leb-true _ 8 f.1; columns_some = leb-true 1 _ k.0; columns_few = leb-true _ 8 k.1; rows_few = omega arith })

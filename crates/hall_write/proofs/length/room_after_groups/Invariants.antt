@@ -4,5 +4,5 @@ use Rattle.cells.specs.Columns.{column}
 use Rattle.hall_file.specs.Written.{groups_bytes}
 use Rattle.hall_write.proofs.length.room_after_groups.Given as goal
 
-abbrev pub invariant-loop-i : goal.invariant-loop-i
-invariant-loop-i g l = l.left + length (groups_bytes g.M.Measure.meaning l.shape (column l.number l.cells)) ≡ l.room + length (groups_bytes g.M.Measure.meaning l.shape (column l.number (drop l.i l.cells)))
+abbrev pub invariant-loop-cell : goal.invariant-loop-cell
+invariant-loop-cell g l = l.left + length (groups_bytes g.M.Measure.meaning l.shape (column l.number l.cells)) ≡ l.room + length (groups_bytes g.M.Measure.meaning l.shape (column l.number (drop l.cell-index l.cells)))

@@ -1,19 +1,11 @@
-use Rattle.std.proofs.Common.{length, sym, refl, ap, ◌∙◌, arith}
-use Rattle.words.specs.Cutting.{to_come}
+use Rattle.std.proofs.Common.{refl, ◌∙◌}
 use Rattle.plan.specs.Lines.{kind_of}
 use Rattle.plan.specs.Machine.{measure, named}
-use Rattle.plan.specs.Promises.{onto}
-use Rattle.plan.proofs.Motions.{moves, advanced, halted, later_shorter}
+use Rattle.plan.proofs.Motions.{moves_by, advanced, halted}
 use Rattle.plan.proofs.lines.read_kind.Goals as goal
 
-pub returns-in-None : goal.returns-in-None
-returns-in-None c = record {
-  on = omega arith;
-  value = λ d n. moves c.args.words.now (named d n) (λ at. refl) refl ∙ ap (λ k. onto c.args.words.now (measure d n k)) (sym (c.in-None.ensures ∙ ap kind_of c.peek.ensures.seen)) ∙ halted _ _ _ c.broken.ensures;
-}
+pub returns-in_default-clause-value : goal.returns-in_default-clause-value
+returns-in_default-clause-value c = λ d n. moves_by kind_of (measure d n) _ (named d n) _ _ (λ at. refl) refl (λ y. refl) c.in_default.ensures c.peek.ensures.seen ∙ halted _ _ _ c.at.ensures
 
-pub returns-in-Some : goal.returns-in-Some
-returns-in-Some c = record {
-  on = omega (arith, ap length c.advance.ensures.words, later_shorter (to_come c.args.words.now));
-  value = λ d n. moves c.args.words.now (named d n) (λ at. refl) refl ∙ ap (λ k. onto c.args.words.now (measure d n k)) (sym (c.in-Some.ensures ∙ ap kind_of c.peek.ensures.seen)) ∙ advanced c.args.words.now c.advance.new.self _ c.advance.ensures.words c.advance.ensures.place;
-}
+pub returns-clause-value : goal.returns-clause-value
+returns-clause-value c = λ d n. moves_by kind_of (measure d n) _ (named d n) _ _ (λ at. refl) refl (λ y. refl) c.in-Some.ensures c.peek.ensures.seen ∙ advanced _ _ _ c.advance.ensures.words c.advance.ensures.place

@@ -1,9 +1,6 @@
-use Rattle.std.proofs.Common.{◌-◌}
+use Rattle.std.proofs.Common.{◌≡◌}
 use Rattle.text.proofs.Fronts.{Passed}
 use Rattle.text.proofs.numbers.front_digits.Given as goal
 
-abbrev pub invariant-loop-count : goal.invariant-loop-count
-invariant-loop-count l = Passed l.text l.count l.value
-
-abbrev pub decreases-loop-count : goal.decreases-loop-count
-decreases-loop-count l = 9 - l.count
+abbrev pub invariant-loop-byte : goal.invariant-loop-byte
+invariant-loop-byte l = (l.count ≡ l.byte-index) × Passed l.text l.count l.value

@@ -1,5 +1,5 @@
 use Rattle.std.proofs.Common.{◌≡◌, ◌+◌, ◌-◌, ◌<◌, [], ◌∷◌, Some, None, sym, refl, ap, ◌∙◌, arith}
-use Rattle.std.proofs.lemmas.Result.{err_from_is_err_and, IfOk-from_err}
+use Rattle.std.proofs.lemmas.Result.{IfOk-from_err}
 use Rattle.conditions.specs.Machine.{along, after, settled, deep, denied, inside}
 use Rattle.conditions.specs.Postfix.{tree, below}
 use Rattle.conditions.specs.Promises.{rest, looks, opened}
@@ -8,36 +8,32 @@ use Rattle.conditions.proofs.Growth.{leaf_grown, denial_grown, bracket_grown, bo
 use Rattle.conditions.proofs.reader.Reader.+conjunction_disjunction_term.Goals as goal
 
 pub conjunction-returns-in_err-term : goal.conjunction-returns-in_err-term
-conjunction-returns-in_err-term t c =
-    let y = err_from_is_err_and c.from_residual.result c.from_residual.ensures.1 in
-    record {
-      on = c.term.ensures.on;
-      grown = IfOk-from_err c.from_residual.result _ c.from_residual.ensures.0;
-      ends = IfOk-from_err c.from_residual.result _ c.from_residual.ensures.0;
-      value = λ o ls d. fails _ _ _ (λ _. after o (tree c.term.new.out) ls) _ _ _ y.1 y.2 (c.in_err-term.ensures.value (opened o ls) d);
-    }
+conjunction-returns-in_err-term t c = record {
+  on = c.term.ensures.on;
+  grown = IfOk-from_err c.from_residual.result _ c.from_residual.ensures.0;
+  ends = IfOk-from_err c.from_residual.result _ c.from_residual.ensures.0;
+  value = λ o ls d. fails _ _ _ (λ _. after o (tree c.term.new.out) ls) _ _ c.from_residual.ensures.1 (c.in_err-term.ensures.value (opened o ls) d);
+}
 
 pub conjunction-returns-in_err-term-2 : goal.conjunction-returns-in_err-term-2
-conjunction-returns-in_err-term-2 t c =
-    let y = err_from_is_err_and c.from_residual-in_err-term-2.result c.from_residual-in_err-term-2.ensures.1 in
-    record {
-      on = two _ _ _ (two _ _ _ (two _ _ _ c.term.ensures.on c.loop-self.invariant.0) c.advance.ensures.on) c.term-in-And.ensures.on;
-      grown = IfOk-from_err c.from_residual-in_err-term-2.result _ c.from_residual-in_err-term-2.ensures.0;
-      ends = IfOk-from_err c.from_residual-in_err-term-2.result _ c.from_residual-in_err-term-2.ensures.0;
-      value = λ o ls d. fails _ _ _ (λ _. after o (tree c.term-in-And.new.out) ls) _ _ _ y.1 y.2
-          (c.in_ok-term.ensures.value (opened o ls) d ∙ c.loop-self.invariant.1 o ls d ∙ joins_and (looks c.args.names.now) c.loop-self.self o (tree c.loop-self.out) ls c.advance.new.self c.in-And.ensures c.advance.ensures.goes
-          ∙ c.in_err-term-2.ensures.value (record { here = record { before = along (tree c.loop-self.out) ∷ []; ors = o }; outer = ls }) d);
-    }
+conjunction-returns-in_err-term-2 t c = record {
+  on = two _ _ _ (two _ _ _ (two _ _ _ c.term.ensures.on c.loop-self.invariant.0) c.advance.ensures.on) c.term-in-loop-self.ensures.on;
+  grown = IfOk-from_err c.from_residual-in_err-term-2.result _ c.from_residual-in_err-term-2.ensures.0;
+  ends = IfOk-from_err c.from_residual-in_err-term-2.result _ c.from_residual-in_err-term-2.ensures.0;
+  value = λ o ls d. fails _ _ _ (λ _. after o (tree c.term-in-loop-self.new.out) ls) _ _ c.from_residual-in_err-term-2.ensures.1
+      (c.in_ok-term.ensures.value (opened o ls) d ∙ c.loop-self.invariant.1 o ls d ∙ joins_and (looks c.args.names.now) c.loop-self.self o (tree c.loop-self.out) ls c.advance.new.self (c.loop-self-test.ensures.yes refl) c.advance.ensures.goes
+      ∙ c.in_err-term-2.ensures.value (record { here = record { before = along (tree c.loop-self.out) ∷ []; ors = o }; outer = ls }) d);
+}
 
 pub conjunction-loop-self-preserved : goal.conjunction-loop-self-preserved
 conjunction-loop-self-preserved t c =
-    let g = both_grown c.term-in-And.new.out c.push.new.self c.push.ensures.used c.loop-self.out _ c.loop-self.self c.term-in-And.new.self c.args.depth c.loop-self.invariant.2 c.in_ok-term-2.ensures.grown c.push.ensures.trees in (
-      two _ _ _ c.loop-self.invariant.0 (two _ _ _ c.advance.ensures.on c.term-in-And.ensures.on),
+    let g = both_grown c.term-in-loop-self.new.out c.push.new.self c.push.ensures.used c.loop-self.out _ c.loop-self.self c.term-in-loop-self.new.self c.args.depth c.loop-self.invariant.2 c.in_ok-term-2.ensures.grown c.push.ensures.trees in (
+      two _ _ _ c.loop-self.invariant.0 (two _ _ _ c.advance.ensures.on c.term-in-loop-self.ensures.on),
       λ o ls d.
           c.loop-self.invariant.1 o ls d
-          ∙ joins_and (looks c.args.names.now) c.loop-self.self o (tree c.loop-self.out) ls c.advance.new.self c.in-And.ensures c.advance.ensures.goes
+          ∙ joins_and (looks c.args.names.now) c.loop-self.self o (tree c.loop-self.out) ls c.advance.new.self (c.loop-self-test.ensures.yes refl) c.advance.ensures.goes
           ∙ c.in_ok-term-2.ensures.value (record { here = record { before = along (tree c.loop-self.out) ∷ []; ors = o }; outer = ls }) d
-          ∙ ap (λ u. rest (looks c.args.names.now) c.term-in-And.new.self (after o u ls)) (sym g.1),
+          ∙ ap (λ u. rest (looks c.args.names.now) c.term-in-loop-self.new.self (after o u ls)) (sym g.1),
       g.0,
     )
 
@@ -46,31 +42,29 @@ conjunction-returns t c = record {
   on = two _ _ _ c.term.ensures.on c.loop-self.invariant.0;
   value = λ o ls d. c.in_ok-term.ensures.value (opened o ls) d ∙ c.loop-self.invariant.1 o ls d;
   grown = same_grown _ _ c.loop-self.out c.loop-self.self c.args.depth (ap below c.in_ok-term.ensures.grown.one) c.loop-self.invariant.2;
-  ends = λ h. c.in_default.not-And (c.joining.ensures ∙ h);
+  ends = c.loop-self-test.ensures.no refl;
 }
 
 pub disjunction-returns-in_err-conjunction-2 : goal.disjunction-returns-in_err-conjunction-2
-disjunction-returns-in_err-conjunction-2 t c =
-    let y = err_from_is_err_and c.from_residual-in_err-conjunction-2.result c.from_residual-in_err-conjunction-2.ensures.1 in
-    record {
-      on = two _ _ _ (two _ _ _ (two _ _ _ c.conjunction.ensures.on c.loop-self.invariant.0) c.advance.ensures.on) c.conjunction-in-Or.ensures.on;
-      grown = IfOk-from_err c.from_residual-in_err-conjunction-2.result _ c.from_residual-in_err-conjunction-2.ensures.0;
-      ends = IfOk-from_err c.from_residual-in_err-conjunction-2.result _ c.from_residual-in_err-conjunction-2.ensures.0;
-      value = λ ls d. fails _ _ _ (λ _. after None (tree c.conjunction-in-Or.new.out) ls) _ _ _ y.1 y.2
-          (c.in_ok-conjunction.ensures.value None ls d ∙ c.loop-self.invariant.1 ls d ∙ joins_or (looks c.args.names.now) c.loop-self.self None (tree c.loop-self.out) ls c.advance.new.self c.in-Or.ensures c.advance.ensures.goes
-          ∙ c.in_err-conjunction-2.ensures.value (Some (tree c.loop-self.out)) ls d);
-    }
+disjunction-returns-in_err-conjunction-2 t c = record {
+  on = two _ _ _ (two _ _ _ (two _ _ _ c.conjunction.ensures.on c.loop-self.invariant.0) c.advance.ensures.on) c.conjunction-in-loop-self.ensures.on;
+  grown = IfOk-from_err c.from_residual-in_err-conjunction-2.result _ c.from_residual-in_err-conjunction-2.ensures.0;
+  ends = IfOk-from_err c.from_residual-in_err-conjunction-2.result _ c.from_residual-in_err-conjunction-2.ensures.0;
+  value = λ ls d. fails _ _ _ (λ _. after None (tree c.conjunction-in-loop-self.new.out) ls) _ _ c.from_residual-in_err-conjunction-2.ensures.1
+      (c.in_ok-conjunction.ensures.value None ls d ∙ c.loop-self.invariant.1 ls d ∙ joins_or (looks c.args.names.now) c.loop-self.self None (tree c.loop-self.out) ls c.advance.new.self (c.loop-self-test.ensures.yes refl) c.advance.ensures.goes
+      ∙ c.in_err-conjunction-2.ensures.value (Some (tree c.loop-self.out)) ls d);
+}
 
 pub disjunction-loop-self-preserved : goal.disjunction-loop-self-preserved
 disjunction-loop-self-preserved t c =
-    let g = either_grown c.conjunction-in-Or.new.out c.push.new.self c.push.ensures.used c.loop-self.out _ c.loop-self.self c.conjunction-in-Or.new.self c.args.depth c.loop-self.invariant.3 c.in_ok-conjunction-2.ensures.grown c.push.ensures.trees in (
-      two _ _ _ c.loop-self.invariant.0 (two _ _ _ c.advance.ensures.on c.conjunction-in-Or.ensures.on),
+    let g = either_grown c.conjunction-in-loop-self.new.out c.push.new.self c.push.ensures.used c.loop-self.out _ c.loop-self.self c.conjunction-in-loop-self.new.self c.args.depth c.loop-self.invariant.3 c.in_ok-conjunction-2.ensures.grown c.push.ensures.trees in (
+      two _ _ _ c.loop-self.invariant.0 (two _ _ _ c.advance.ensures.on c.conjunction-in-loop-self.ensures.on),
       λ ls d.
           c.loop-self.invariant.1 ls d
-          ∙ joins_or (looks c.args.names.now) c.loop-self.self None (tree c.loop-self.out) ls c.advance.new.self c.in-Or.ensures c.advance.ensures.goes
+          ∙ joins_or (looks c.args.names.now) c.loop-self.self None (tree c.loop-self.out) ls c.advance.new.self (c.loop-self-test.ensures.yes refl) c.advance.ensures.goes
           ∙ c.in_ok-conjunction-2.ensures.value (Some (tree c.loop-self.out)) ls d
-          ∙ shuts (looks c.args.names.now) c.conjunction-in-Or.new.self (Some (tree c.loop-self.out)) (tree c.conjunction-in-Or.new.out) ls c.in_ok-conjunction-2.ensures.ends
-          ∙ ap (λ u. rest (looks c.args.names.now) c.conjunction-in-Or.new.self (after None u ls)) (sym g.1),
+          ∙ shuts (looks c.args.names.now) c.conjunction-in-loop-self.new.self (Some (tree c.loop-self.out)) (tree c.conjunction-in-loop-self.new.out) ls c.in_ok-conjunction-2.ensures.ends
+          ∙ ap (λ u. rest (looks c.args.names.now) c.conjunction-in-loop-self.new.self (after None u ls)) (sym g.1),
       c.in_ok-conjunction-2.ensures.ends,
       g.0,
     )
@@ -80,29 +74,27 @@ disjunction-returns t c = record {
   on = two _ _ _ c.conjunction.ensures.on c.loop-self.invariant.0;
   value = λ ls d. c.in_ok-conjunction.ensures.value None ls d ∙ c.loop-self.invariant.1 ls d;
   grown = same_grown _ _ c.loop-self.out c.loop-self.self c.args.depth (ap below c.in_ok-conjunction.ensures.grown.one) c.loop-self.invariant.3;
-  ends = (c.loop-self.invariant.2, λ h. c.in_default.not-Or (c.joining.ensures ∙ h));
+  ends = (c.loop-self.invariant.2, c.loop-self-test.ensures.no refl);
 }
 
 pub term-returns-then-depth-eq0 : goal.term-returns-then-depth-eq0
 term-returns-then-depth-eq0 t c = record {
   on = stays c.args.self.now c.args.self.now refl refl;
   grown = tt;
-  value = λ p d. denied_too_deep (looks c.args.names.now) c.args.self.now p _ c.in-Denial.ensures (omega (arith, d, c.if-depth-eq0.true)) c.limit.ensures;
+  value = λ p d. denied_too_deep (looks c.args.names.now) c.args.self.now p _ c.in-Denial.ensures (omega (arith, d, c.if-depth-eq0.true)) c.at.ensures;
 }
 
 pub term-returns-in_err-term-in-Denial : goal.term-returns-in_err-term-in-Denial
-term-returns-in_err-term-in-Denial t c =
-    let y = err_from_is_err_and c.from_residual.result c.from_residual.ensures.1 in
-    record {
-      on = two _ _ _ c.advance.ensures.on c.term.ensures.on;
-      grown = IfOk-from_err c.from_residual.result _ c.from_residual.ensures.0;
-      value = λ p d.
-          let low : deep p < 8 = omega (arith, d, c.if-depth-eq0.false) in
-          let more : deep (denied p) + (c.args.depth - 1) ≡ 8 = omega (arith, d, c.if-depth-eq0.false) in
-          fails _ _ _ (λ _. settled p (tree c.term.new.out)) _ _ _ y.1 y.2
-          (denies (looks c.args.names.now) c.args.self.now p c.advance.new.self c.in-Denial.ensures low c.advance.ensures.goes
-          ∙ c.in_err-term-in-Denial.ensures.value (denied p) more);
-    }
+term-returns-in_err-term-in-Denial t c = record {
+  on = two _ _ _ c.advance.ensures.on c.term.ensures.on;
+  grown = IfOk-from_err c.from_residual.result _ c.from_residual.ensures.0;
+  value = λ p d.
+      let low : deep p < 8 = omega (arith, d, c.if-depth-eq0.false) in
+      let more : deep (denied p) + (c.args.depth - 1) ≡ 8 = omega (arith, d, c.if-depth-eq0.false) in
+      fails _ _ _ (λ _. settled p (tree c.term.new.out)) _ _ c.from_residual.ensures.1
+      (denies (looks c.args.names.now) c.args.self.now p c.advance.new.self c.in-Denial.ensures low c.advance.ensures.goes
+      ∙ c.in_err-term-in-Denial.ensures.value (denied p) more);
+}
 
 pub term-returns-in_ok-term-in-Denial : goal.term-returns-in_ok-term-in-Denial
 term-returns-in_ok-term-in-Denial t c =
@@ -122,40 +114,38 @@ pub term-returns-then-depth-eq0-2 : goal.term-returns-then-depth-eq0-2
 term-returns-then-depth-eq0-2 t c = record {
   on = stays c.args.self.now c.args.self.now refl refl;
   grown = tt;
-  value = λ p d. bracket_too_deep (looks c.args.names.now) c.args.self.now p _ c.in-Bracket.ensures (omega (arith, d, c.if-depth-eq0-2.true)) c.limit-then-depth-eq0-2.ensures;
+  value = λ p d. bracket_too_deep (looks c.args.names.now) c.args.self.now p _ c.in-Bracket.ensures (omega (arith, d, c.if-depth-eq0-2.true)) c.at-then-depth-eq0-2.ensures;
 }
 
 pub term-returns-in_err-disjunction-in-Bracket : goal.term-returns-in_err-disjunction-in-Bracket
-term-returns-in_err-disjunction-in-Bracket t c =
-    let y = err_from_is_err_and c.from_residual-in_err-disjunction-in-Bracket.result c.from_residual-in_err-disjunction-in-Bracket.ensures.1 in
-    record {
-      on = two _ _ _ c.advance-in-Bracket.ensures.on c.disjunction.ensures.on;
-      grown = IfOk-from_err c.from_residual-in_err-disjunction-in-Bracket.result _ c.from_residual-in_err-disjunction-in-Bracket.ensures.0;
-      value = λ p d.
-          let low : deep p < 8 = omega (arith, d, c.if-depth-eq0-2.false) in
-          let more : deep (inside p) + (c.args.depth - 1) ≡ 8 = omega (arith, d, c.if-depth-eq0-2.false) in
-          fails _ _ _ (λ _. settled p (tree c.disjunction.new.out)) _ _ _ y.1 y.2
-          (enters (looks c.args.names.now) c.args.self.now p c.advance-in-Bracket.new.self c.in-Bracket.ensures low c.advance-in-Bracket.ensures.goes
-          ∙ c.in_err-disjunction-in-Bracket.ensures.value (p.here ∷ p.outer) more);
-    }
+term-returns-in_err-disjunction-in-Bracket t c = record {
+  on = two _ _ _ c.advance-in-Bracket.ensures.on c.disjunction.ensures.on;
+  grown = IfOk-from_err c.from_residual-in_err-disjunction-in-Bracket.result _ c.from_residual-in_err-disjunction-in-Bracket.ensures.0;
+  value = λ p d.
+      let low : deep p < 8 = omega (arith, d, c.if-depth-eq0-2.false) in
+      let more : deep (inside p) + (c.args.depth - 1) ≡ 8 = omega (arith, d, c.if-depth-eq0-2.false) in
+      fails _ _ _ (λ _. settled p (tree c.disjunction.new.out)) _ _ c.from_residual-in_err-disjunction-in-Bracket.ensures.1
+      (enters (looks c.args.names.now) c.args.self.now p c.advance-in-Bracket.new.self c.in-Bracket.ensures low c.advance-in-Bracket.ensures.goes
+      ∙ c.in_err-disjunction-in-Bracket.ensures.value (p.here ∷ p.outer) more);
+}
 
-pub term-returns-in-Close : goal.term-returns-in-Close
-term-returns-in-Close t c =
-    let g = bracket_grown c.disjunction.new.out c.push-in-Close.new.self c.push-in-Close.ensures.used _ c.disjunction.new.self c.advance-in-Close.new.self c.args.depth (omega (arith, c.if-depth-eq0-2.false)) c.in_ok-disjunction-in-Bracket.ensures.grown c.advance-in-Close.ensures.on c.push-in-Close.ensures.trees in
+pub term-returns-else-not-joins : goal.term-returns-else-not-joins
+term-returns-else-not-joins t c =
+    let g = bracket_grown c.disjunction.new.out c.push-in-Bracket.new.self c.push-in-Bracket.ensures.used _ c.disjunction.new.self c.advance-in-Bracket-2.new.self c.args.depth (omega (arith, c.if-depth-eq0-2.false)) c.in_ok-disjunction-in-Bracket.ensures.grown c.advance-in-Bracket-2.ensures.on c.push-in-Bracket.ensures.trees in
     record {
-      on = two _ _ _ (two _ _ _ c.advance-in-Bracket.ensures.on c.disjunction.ensures.on) c.advance-in-Close.ensures.on;
+      on = two _ _ _ (two _ _ _ c.advance-in-Bracket.ensures.on c.disjunction.ensures.on) c.advance-in-Bracket-2.ensures.on;
       grown = g.0;
       value = λ p d.
           let low : deep p < 8 = omega (arith, d, c.if-depth-eq0-2.false) in
           let more : deep (inside p) + (c.args.depth - 1) ≡ 8 = omega (arith, d, c.if-depth-eq0-2.false) in
           enters (looks c.args.names.now) c.args.self.now p c.advance-in-Bracket.new.self c.in-Bracket.ensures low c.advance-in-Bracket.ensures.goes
           ∙ c.in_ok-disjunction-in-Bracket.ensures.value (p.here ∷ p.outer) more
-          ∙ closes (looks c.args.names.now) c.disjunction.new.self None (tree c.disjunction.new.out) p.outer c.advance-in-Close.new.self p.here c.in-Close.ensures c.advance-in-Close.ensures.goes
-          ∙ ap (λ u. rest (looks c.args.names.now) c.advance-in-Close.new.self (settled p u)) (sym g.1);
+          ∙ closes (looks c.args.names.now) c.disjunction.new.self None (tree c.disjunction.new.out) p.outer c.advance-in-Bracket-2.new.self p.here (c.if-not-joins.ensures.yes refl) c.advance-in-Bracket-2.ensures.goes
+          ∙ ap (λ u. rest (looks c.args.names.now) c.advance-in-Bracket-2.new.self (settled p u)) (sym g.1);
     }
 
-pub term-returns-in_default : goal.term-returns-in_default
-term-returns-in_default t c = record {
+pub term-returns-then-not-joins : goal.term-returns-then-not-joins
+term-returns-then-not-joins t c = record {
   on = two _ _ _ c.advance-in-Bracket.ensures.on c.disjunction.ensures.on;
   grown = tt;
   value = λ p d.
@@ -163,18 +153,16 @@ term-returns-in_default t c = record {
       let more : deep (inside p) + (c.args.depth - 1) ≡ 8 = omega (arith, d, c.if-depth-eq0-2.false) in
       enters (looks c.args.names.now) c.args.self.now p c.advance-in-Bracket.new.self c.in-Bracket.ensures low c.advance-in-Bracket.ensures.goes
       ∙ c.in_ok-disjunction-in-Bracket.ensures.value (p.here ∷ p.outer) more
-      ∙ not_closed (looks c.args.names.now) c.disjunction.new.self None (tree c.disjunction.new.out) p.outer p.here _ c.in_ok-disjunction-in-Bracket.ensures.ends.0 c.in_ok-disjunction-in-Bracket.ensures.ends.1 (λ h. c.in_default.not-Close (c.joining.ensures ∙ h)) c.form.ensures;
+      ∙ not_closed (looks c.args.names.now) c.disjunction.new.self None (tree c.disjunction.new.out) p.outer p.here _ c.in_ok-disjunction-in-Bracket.ensures.ends.0 c.in_ok-disjunction-in-Bracket.ensures.ends.1 (c.if-not-joins.ensures.no refl) c.at-then-not-joins.ensures;
 }
 
 pub term-returns-in_err-found-in-Plain : goal.term-returns-in_err-found-in-Plain
-term-returns-in_err-found-in-Plain t c =
-    let y = err_from_is_err_and c.from_residual-in_err-found-in-Plain.result c.from_residual-in_err-found-in-Plain.ensures.1 in
-    record {
-      on = c.comparison.ensures.on;
-      grown = IfOk-from_err c.from_residual-in_err-found-in-Plain.result _ c.from_residual-in_err-found-in-Plain.ensures.0;
-      value = λ p d. fails _ _ _ (λ _. settled p (tree c.args.out.now)) _ _ _ y.1 y.2
-          (plainly (looks c.args.names.now) c.args.self.now p c.in-Plain.ensures ∙ c.in_err-found-in-Plain.ensures.value p);
-    }
+term-returns-in_err-found-in-Plain t c = record {
+  on = c.comparison.ensures.on;
+  grown = IfOk-from_err c.from_residual-in_err-found-in-Plain.result _ c.from_residual-in_err-found-in-Plain.ensures.0;
+  value = λ p d. fails _ _ _ (λ _. settled p (tree c.args.out.now)) _ _ c.from_residual-in_err-found-in-Plain.ensures.1
+      (plainly (looks c.args.names.now) c.args.self.now p c.in-Plain.ensures ∙ c.in_err-found-in-Plain.ensures.value p);
+}
 
 pub term-returns-in_ok-found-in-Plain : goal.term-returns-in_ok-found-in-Plain
 term-returns-in_ok-found-in-Plain t c =

@@ -1,4 +1,4 @@
-use Rattle.std.proofs.Common.{[], ◌∷◌, Err, sym, ap, ◌∙◌, arith}
+use Rattle.std.proofs.Common.{[], ◌∷◌, Err, sym, refl, ap, ◌∙◌, arith}
 use Rattle.std.proofs.lemmas.Result.{err_from_is_err_and, IfOk-from_err}
 use Rattle.conditions.specs.Machine.{accepted}
 use Rattle.conditions.specs.Postfix.{tree}
@@ -14,16 +14,16 @@ returns-in_err-disjunction c =
       one = IfOk-from_err c.from_residual.result _ c.from_residual.ensures.0;
     }
 
-pub returns-in-End : goal.returns-in-End
-returns-in-End c = record {
+pub returns : goal.returns
+returns c = record {
   value = (λ i. accepted (tree c.disjunction.new.out) (seen_by c.disjunction.new.self) (c.advance.ensures.place i) (c.advance.ensures.words i))
-      ∙ sym (c.in_ok-disjunction.ensures.value [] (omega (arith, c.levels.ensures)) ∙ ended (looks c.args.names.now) c.disjunction.new.self (tree c.disjunction.new.out) c.in-End.ensures);
+      ∙ sym (c.in_ok-disjunction.ensures.value [] (omega (arith, c.levels.ensures)) ∙ ended (looks c.args.names.now) c.disjunction.new.self (tree c.disjunction.new.out) (c.if-not-joins.ensures.yes refl));
   one = c.in_ok-disjunction.ensures.grown.one ∙ ap (λ l. tree c.disjunction.new.out ∷ l) c.always-out.ensures.none;
 }
 
-pub returns-in_default : goal.returns-in_default
-returns-in_default c = record {
+pub returns-then-not-joins : goal.returns-then-not-joins
+returns-then-not-joins c = record {
   value = sym (c.in_ok-disjunction.ensures.value [] (omega (arith, c.levels.ensures))
-      ∙ not_ended (looks c.args.names.now) c.disjunction.new.self (tree c.disjunction.new.out) _ c.in_ok-disjunction.ensures.ends.0 c.in_ok-disjunction.ensures.ends.1 (λ h. c.in_default.not-End (c.joining.ensures ∙ h)) c.form.ensures);
+      ∙ not_ended (looks c.args.names.now) c.disjunction.new.self (tree c.disjunction.new.out) _ c.in_ok-disjunction.ensures.ends.0 c.in_ok-disjunction.ensures.ends.1 (c.if-not-joins.ensures.no refl) c.at.ensures);
   one = tt;
 }

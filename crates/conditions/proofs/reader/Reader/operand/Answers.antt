@@ -1,49 +1,42 @@
-use Rattle.std.proofs.Common.{◌≡◌, refl, ap, ◌∙◌, arith, w32, SFits, to_z, of_z, rules}
-use Rattle.std.proofs.lemmas.Result.{err_from_is_err_and}
+use Rattle.std.proofs.Common.{◌≡◌, Ok, refl, ap, ◌∙◌, arith, w32, SFits, to_z, of_z, rules}
 use Rattle.std.proofs.lemmas.Int.{ints}
-use Rattle.conditions.specs.Machine.{found, arrived}
+use Rattle.conditions.specs.Machine.{arrived}
 use Rattle.conditions.specs.Promises.{rest, looks}
 use Rattle.conditions.specs.declared.condition.Operand.TheVariants.{Number, Row, Base}
-use Rattle.conditions.proofs.Moves.{fails, two, stays, value_begins, base_begins, row_begins, row_refused, form_refused, unknown_refused}
+use Rattle.conditions.proofs.Moves.{fails, two, stays, value_begins, base_begins, row_begins, row_refused, wrong_begins}
 use Rattle.conditions.proofs.reader.Reader.operand.Goals as goal
 
-pub returns-in-NoOperand : goal.returns-in-NoOperand
-returns-in-NoOperand c = record {
-  on = stays c.args.self.now c.args.self.now refl refl;
-  value = λ p side. form_refused (looks c.args.names.now) c.args.self.now p side _ (c.in-NoOperand.ensures.value ∙ ap (found _) c.peek.ensures.seen) c.form.ensures;
-}
+pub returns-in_err-first : goal.returns-in_err-first
+returns-in_err-first c =
+    let w = c.in_err-first.ensures.value in
+    record {
+      on = stays c.args.self.now c.args.self.now refl refl;
+      value = λ p side. fails _ _ _ (arrived p side) _ _ c.from_residual.ensures.1 (wrong_begins (looks c.args.names.now) c.args.self.now p side w.0 _ w.1 w.2);
+    }
 
-pub returns-in-Unknown : goal.returns-in-Unknown
-returns-in-Unknown c = record {
-  on = stays c.args.self.now c.args.self.now refl refl;
-  value = λ p side. unknown_refused (looks c.args.names.now) c.args.self.now p side _ (c.in-Unknown.ensures.value ∙ ap (found _) c.peek.ensures.seen) c.unknown.ensures;
-}
-
-pub returns-then-not-note : goal.returns-then-not-note
-returns-then-not-note c = record {
-  on = c.note.ensures.on;
-  value = λ p side. row_refused (looks c.args.names.now) c.args.self.now p side c.note.new.self c.in-RowField.field _ (c.in-RowField.ensures.value ∙ ap (found _) c.peek.ensures.seen) c.if-not-note.ensures.value c.note.ensures.stays c.limit.ensures;
-}
+pub returns-in_err-note-in-RowField : goal.returns-in_err-note-in-RowField
+returns-in_err-note-in-RowField c =
+    let w = c.in_err-note-in-RowField.ensures.value in
+    record {
+      on = c.note.ensures.on;
+      value = λ p side. fails _ _ _ (arrived p side) _ _ c.from_residual-in_err-note-in-RowField.ensures.1 (row_refused (looks c.args.names.now) c.args.self.now p side c.in-RowField.field _ (c.in_ok-first.ensures.value ∙ ap Ok c.in-RowField.is) w.0 w.1);
+    }
 
 pub returns-in_err-by-in-RowField : goal.returns-in_err-by-in-RowField
-returns-in_err-by-in-RowField c =
-    let y = err_from_is_err_and c.from_residual.result c.from_residual.ensures.1 in
-    record {
-      on = two _ _ _ (two _ _ _ c.note.ensures.on c.advance-in-RowField.ensures.on) c.shift.ensures.on;
-      value = λ p side. fails _ _ _ (arrived p side) _ _ _ y.1 y.2
-          (row_begins (looks c.args.names.now) c.args.self.now p side c.note.new.self c.advance-in-RowField.new.self c.in-RowField.field (c.in-RowField.ensures.value ∙ ap (found _) c.peek.ensures.seen) (c.note.ensures.seen c.if-not-note.false) c.note.ensures.stays c.advance-in-RowField.ensures.goes
-          ∙ c.in_err-by-in-RowField.ensures.value _ p side (Row c.in-RowField.field));
-    }
+returns-in_err-by-in-RowField c = record {
+  on = two _ _ _ (two _ _ _ c.note.ensures.on c.advance-in-RowField.ensures.on) c.shift.ensures.on;
+  value = λ p side. fails _ _ _ (arrived p side) _ _ c.from_residual-in_err-by-in-RowField.ensures.1
+      (row_begins (looks c.args.names.now) c.args.self.now p side c.note.new.self c.advance-in-RowField.new.self c.in-RowField.field (c.in_ok-first.ensures.value ∙ ap Ok c.in-RowField.is) c.in_ok-note-in-RowField.ensures.value c.note.ensures.stays c.advance-in-RowField.ensures.goes
+      ∙ c.in_err-by-in-RowField.ensures.value _ p side (Row c.in-RowField.field));
+}
 
 pub returns-in_err-by-in-BaseField : goal.returns-in_err-by-in-BaseField
-returns-in_err-by-in-BaseField c =
-    let y = err_from_is_err_and c.from_residual-in_err-by-in-BaseField.result c.from_residual-in_err-by-in-BaseField.ensures.1 in
-    record {
-      on = two _ _ _ c.advance-in-BaseField.ensures.on c.shift-in-BaseField.ensures.on;
-      value = λ p side. fails _ _ _ (arrived p side) _ _ _ y.1 y.2
-          (base_begins (looks c.args.names.now) c.args.self.now p side c.advance-in-BaseField.new.self c.in-BaseField.field (c.in-BaseField.ensures.value ∙ ap (found _) c.peek.ensures.seen) c.advance-in-BaseField.ensures.goes
-          ∙ c.in_err-by-in-BaseField.ensures.value _ p side (Base c.in-BaseField.field));
-    }
+returns-in_err-by-in-BaseField c = record {
+  on = two _ _ _ c.advance-in-BaseField.ensures.on c.shift-in-BaseField.ensures.on;
+  value = λ p side. fails _ _ _ (arrived p side) _ _ c.from_residual-in_err-by-in-BaseField.ensures.1
+      (base_begins (looks c.args.names.now) c.args.self.now p side c.advance-in-BaseField.new.self c.in-BaseField.field (c.in_ok-first.ensures.value ∙ ap Ok c.in-BaseField.is) c.advance-in-BaseField.ensures.goes
+      ∙ c.in_err-by-in-BaseField.ensures.value _ p side (Base c.in-BaseField.field));
+}
 
 pub returns-in-Value : goal.returns-in-Value
 returns-in-Value c =
@@ -52,7 +45,7 @@ returns-in-Value c =
     record {
       on = c.advance.ensures.on;
       value = λ p side.
-          value_begins (looks c.args.names.now) c.args.self.now p side c.advance.new.self c.in-Value.z (c.in-Value.ensures.value ∙ ap (found _) c.peek.ensures.seen) c.advance.ensures.goes
+          value_begins (looks c.args.names.now) c.args.self.now p side c.advance.new.self c.in-Value.z (c.in_ok-first.ensures.value ∙ ap Ok c.in-Value.is) c.advance.ensures.goes
           ∙ ap (λ z. rest (looks c.args.names.now) c.advance.new.self (arrived p side (Number z))) back;
     }
 
@@ -60,7 +53,7 @@ pub returns-in_ok-by-in-RowField : goal.returns-in_ok-by-in-RowField
 returns-in_ok-by-in-RowField c = record {
   on = two _ _ _ (two _ _ _ c.note.ensures.on c.advance-in-RowField.ensures.on) c.shift.ensures.on;
   value = λ p side.
-      row_begins (looks c.args.names.now) c.args.self.now p side c.note.new.self c.advance-in-RowField.new.self c.in-RowField.field (c.in-RowField.ensures.value ∙ ap (found _) c.peek.ensures.seen) (c.note.ensures.seen c.if-not-note.false) c.note.ensures.stays c.advance-in-RowField.ensures.goes
+      row_begins (looks c.args.names.now) c.args.self.now p side c.note.new.self c.advance-in-RowField.new.self c.in-RowField.field (c.in_ok-first.ensures.value ∙ ap Ok c.in-RowField.is) c.in_ok-note-in-RowField.ensures.value c.note.ensures.stays c.advance-in-RowField.ensures.goes
       ∙ c.in_ok-by-in-RowField.ensures.value _ p side (Row c.in-RowField.field);
 }
 
@@ -68,6 +61,6 @@ pub returns-in_ok-by-in-BaseField : goal.returns-in_ok-by-in-BaseField
 returns-in_ok-by-in-BaseField c = record {
   on = two _ _ _ c.advance-in-BaseField.ensures.on c.shift-in-BaseField.ensures.on;
   value = λ p side.
-      base_begins (looks c.args.names.now) c.args.self.now p side c.advance-in-BaseField.new.self c.in-BaseField.field (c.in-BaseField.ensures.value ∙ ap (found _) c.peek.ensures.seen) c.advance-in-BaseField.ensures.goes
+      base_begins (looks c.args.names.now) c.args.self.now p side c.advance-in-BaseField.new.self c.in-BaseField.field (c.in_ok-first.ensures.value ∙ ap Ok c.in-BaseField.is) c.advance-in-BaseField.ensures.goes
       ∙ c.in_ok-by-in-BaseField.ensures.value _ p side (Base c.in-BaseField.field);
 }

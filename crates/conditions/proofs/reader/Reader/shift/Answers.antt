@@ -16,25 +16,25 @@ returns-in_default-peek c = record {
   on = c.advance.ensures.on;
   value = λ e p side mk.
       goes_on e c.args.self.now c.advance.new.self (field p side mk) (by p side mk c.in-Shift.plus) _ c.in-Shift.ensures.seen refl c.advance.ensures.goes
-      ∙ refuses e c.advance.new.self _ _ _ _ c.peek-2.ensures.seen (by_none e _ p side mk _ _ c.in_default-peek.not-Number) c.form.ensures;
+      ∙ refuses e c.advance.new.self _ _ _ _ c.peek-2.ensures.seen (by_none e _ p side mk _ _ c.in_default-peek.not-Number) c.at.ensures;
 }
 
-pub returns-in-None : goal.returns-in-None
-returns-in-None c =
+pub returns-in_default-shift_by : goal.returns-in_default-shift_by
+returns-in_default-shift_by c =
     let fits : SFits w32 c.in-Number.value = search rules in
     let back : c.in-Number.value ≡ to_z w32 (of_z w32 c.in-Number.value) = omega (arith, ints) in record {
       on = c.advance.ensures.on;
       value = λ e p side mk.
           goes_on e c.args.self.now c.advance.new.self (field p side mk) (by p side mk c.in-Shift.plus) _ c.in-Shift.ensures.seen refl c.advance.ensures.goes
-          ∙ refuses e c.advance.new.self _ _ _ _ c.in-Number.ensures.seen (ap (λ z. shifted (seen_by c.advance.new.self) p side mk (shift_of c.in-Shift.plus z)) back ∙ ap (shifted (seen_by c.advance.new.self) p side mk) (sym c.in-None.ensures)) c.form-in-None.ensures;
+          ∙ refuses e c.advance.new.self _ _ _ _ c.in-Number.ensures.seen (ap (λ z. shifted (seen_by c.advance.new.self) p side mk (shift_of c.in-Shift.plus z)) back ∙ ap (shifted (seen_by c.advance.new.self) p side mk) (sym c.shift_by.ensures ∙ c.in_default-shift_by.is)) c.at-in_default-shift_by.ensures;
     }
 
-pub returns-in-Some : goal.returns-in-Some
-returns-in-Some c =
+pub returns : goal.returns
+returns c =
     let fits : SFits w32 c.in-Number.value = search rules in
     let back : c.in-Number.value ≡ to_z w32 (of_z w32 c.in-Number.value) = omega (arith, ints) in record {
-      on = two _ _ _ c.advance.ensures.on c.advance-in-Some.ensures.on;
+      on = two _ _ _ c.advance.ensures.on c.advance-2.ensures.on;
       value = λ e p side mk.
           goes_on e c.args.self.now c.advance.new.self (field p side mk) (by p side mk c.in-Shift.plus) _ c.in-Shift.ensures.seen refl c.advance.ensures.goes
-          ∙ goes_on e c.advance.new.self c.advance-in-Some.new.self (by p side mk c.in-Shift.plus) _ _ c.in-Number.ensures.seen (ap (λ z. shifted (seen_by c.advance.new.self) p side mk (shift_of c.in-Shift.plus z)) back ∙ ap (shifted (seen_by c.advance.new.self) p side mk) (sym c.in-Some.ensures)) c.advance-in-Some.ensures.goes;
+          ∙ goes_on e c.advance.new.self c.advance-2.new.self (by p side mk c.in-Shift.plus) _ _ c.in-Number.ensures.seen (ap (λ z. shifted (seen_by c.advance.new.self) p side mk (shift_of c.in-Shift.plus z)) back ∙ ap (shifted (seen_by c.advance.new.self) p side mk) (sym c.in-Some.ensures)) c.advance-2.ensures.goes;
     }

@@ -3,4 +3,4 @@ use Rattle.feeds.proofs.Cuts.{all_cut}
 use Rattle.feeds.proofs.list.ListFeedFeed.width.Goals as goal
 
 pub returns : goal.returns
-returns c = record { value = refl; each = all_cut c.args.self.now.width c.args.self.now.rest.now }
+returns c = record { value = refl; each = all_cut c.args.self.now.width.fields c.args.self.now.rest.now }

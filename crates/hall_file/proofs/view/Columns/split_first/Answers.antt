@@ -1,5 +1,5 @@
 -- The first column lies at the front, and the others right after its groups.
-use Rattle.std.proofs.Common.{◌<◌, List, length, refl, ap, ◌∙◌, arith}
+use Rattle.std.proofs.Common.{◌*◌, ◌<◌, List, length, refl, ap, ◌∙◌, arith}
 use Rattle.std.proofs.lemmas.List.{nil_from_length}
 use Rattle.readers.specs.Readers.{number}
 use Rattle.readers.proofs.Inverses.{none_some}
@@ -26,35 +26,37 @@ returns-then-self g c cs sh = let many = sh.many in nil_from_length cs (omega ar
 pub returns-in_err-shape : goal.returns-in_err-shape
 returns-in_err-shape g c cs sh =
     let s = start g c.args.self cs sh (omega arith) in
-    none_some _ (c.in_err-shape.ensures ∙ s.shaped)
+    none_some _ (c.in_err-shape.ensures.read ∙ s.shaped)
 
 pub returns-in_err-left : goal.returns-in_err-left
 returns-in_err-left g c cs sh =
     let s = start g c.args.self cs sh (omega arith) in
-    let p = some_pair _ _ _ _ (c.in_ok-shape.ensures ∙ s.shaped) in
+    let p = some_pair _ _ _ _ (c.in_ok-shape.ensures.read ∙ s.shaped) in
     none_some _ (c.in_err-left.ensures ∙ ap (number 2) p.1 ∙ s.counted)
 
-pub returns-then-length-rest : goal.returns-then-length-rest
-returns-then-length-rest g c cs sh =
+pub returns-in_err-bytes : goal.returns-in_err-bytes
+returns-in_err-bytes g c cs sh =
     let s = start g c.args.self cs sh (omega arith) in
-    let p = some_pair _ _ _ _ (c.in_ok-shape.ensures ∙ s.shaped) in
+    let p = some_pair _ _ _ _ (c.in_ok-shape.ensures.read ∙ s.shaped) in
     let q = some_pair _ _ _ _ (c.in_ok-left.ensures ∙ ap (number 2) p.1 ∙ s.counted) in
-    let within = (cut (laws g) s c.in_ok-shape.shape c.in_ok-left.left c.group_length.result c.in_ok-left.rest.now p.0 q.0 c.group_length.ensures.value q.1).within in
+    let within = (cut (laws g) s c.in_ok-shape.shape c.in_ok-left.left c.group_length.result _ c.in_ok-left.rest.now p.0 q.0 c.group_length.ensures.value (ap (λ n. n * c.group_length.result) c.from.ensures) q.1).within in
+    let short = c.in_err-bytes.ensures.cases in
     absurd (omega arith)
 
 pub returns : goal.returns
 returns g c cs sh =
     let s = start g c.args.self cs sh (omega arith) in
-    let p = some_pair _ _ _ _ (c.in_ok-shape.ensures ∙ s.shaped) in
+    let p = some_pair _ _ _ _ (c.in_ok-shape.ensures.read ∙ s.shaped) in
     let q = some_pair _ _ _ _ (c.in_ok-left.ensures ∙ ap (number 2) p.1 ∙ s.counted) in
-    let k = cut (laws g) s c.in_ok-shape.shape c.in_ok-left.left c.group_length.result c.in_ok-left.rest.now p.0 q.0 c.group_length.ensures.value q.1 in
+    let k = cut (laws g) s c.in_ok-shape.shape c.in_ok-left.left c.group_length.result _ c.in_ok-left.rest.now p.0 q.0 c.group_length.ensures.value (ap (λ n. n * c.group_length.result) c.from.ensures) q.1 in
+    let parts = c.in_ok-bytes.ensures.cases in
     let many = sh.many in
     let one_less = ap length s.is in (
       s.first,
       s.others,
       s.is,
-      record { shape = p.0; wide = s.wide; many = q.0; few = s.few; each = s.good.each; bytes = k.groups },
+      record { shape = p.0; wide = s.wide; many = q.0; few = s.few; each = s.good.each; bytes = parts.1 ∙ k.groups },
       refl,
-      record { fields_few = sh.fields_few; rows_few = sh.rows_few; many = omega arith; each = s.others_good; bytes = k.others },
+      record { fields_few = sh.fields_few; rows_few = sh.rows_few; many = omega arith; each = s.others_good; bytes = parts.2 ∙ k.others },
       refl,
     )

@@ -1,5 +1,5 @@
 -- The first group lies at the front, and the others right after it.
-use Rattle.std.proofs.Common.{◌≡◌, ◌<◌, List, length, refl, ap, ◌∙◌, arith}
+use Rattle.std.proofs.Common.{◌≡◌, ◌<◌, ◌≤◌, List, length, sym, refl, subst, ap, ◌∙◌, arith}
 use Rattle.std.proofs.lemmas.List.{nil_from_length}
 use Rattle.measures.specs.Values.{most_rows}
 use Rattle.cells.specs.Columns.{Group, cell_of}
@@ -8,6 +8,7 @@ use Rattle.readers.proofs.Inverses.{none_some}
 use Rattle.hall_file.specs.declared.shape.ColumnShape.{ColumnShape}
 use Rattle.hall_file.specs.declared.view.Groups.{Groups}
 use Rattle.hall_file.specs.Reading.{group}
+use Rattle.hall_file.specs.Written.{width}
 use Rattle.hall_file.specs.Views.{ShowsGroups}
 use Rattle.hall_file.proofs.Forms.{Lawful}
 use Rattle.hall_file.proofs.Looks.{NextRead, next_read, some_pair}
@@ -27,6 +28,9 @@ start g v s gs sh l =
 reads_here : (g : Over) (v : Groups g.row.M.Denot) (s : ColumnShape g.row.M.Denot) (gs : List (Group g.row.M-Value.Denot)) (sh : ShowsGroups g.M.Measure.meaning s gs v) (l : 0 < v.left) → group g.M.Measure.meaning v.shape most_rows v.bytes.now ≡ group g.M.Measure.meaning s most_rows v.bytes.now
 reads_here g v s gs sh l = ap (λ x. group g.M.Measure.meaning x most_rows v.bytes.now) sh.shape
 
+narrow : (g : Over) (v : Groups g.row.M.Denot) (s : ColumnShape g.row.M.Denot) (gs : List (Group g.row.M-Value.Denot)) → ShowsGroups g.M.Measure.meaning s gs v → width v.shape ≤ 4
+narrow g v s gs sh = subst (λ x. width x ≤ 4) (sym sh.shape) sh.wide
+
 pub returns-then-self-eq0 : goal.returns-then-self-eq0
 returns-then-self-eq0 g c s gs sh = let many = sh.many in nil_from_length gs (omega arith)
 
@@ -34,13 +38,13 @@ pub returns-in_err-cell : goal.returns-in_err-cell
 returns-in_err-cell g c s gs sh =
     let l : 0 < c.args.self.left = omega arith in
     let n = start g c.args.self s gs sh l in
-    none_some _ (c.in_err-cell.ensures ∙ ap (changed (cell_of c.args.self.number)) (reads_here g c.args.self s gs sh l ∙ n.reads))
+    none_some _ (c.in_err-cell.ensures.read (narrow g c.args.self s gs sh) ∙ ap (changed (cell_of c.args.self.number)) (reads_here g c.args.self s gs sh l ∙ n.reads))
 
 pub returns : goal.returns
 returns g c s gs sh =
     let l : 0 < c.args.self.left = omega arith in
     let n = start g c.args.self s gs sh l in
-    let p = some_pair _ _ _ _ (c.in_ok-cell.ensures ∙ ap (changed (cell_of c.args.self.number)) (reads_here g c.args.self s gs sh l ∙ n.reads)) in
+    let p = some_pair _ _ _ _ (c.in_ok-cell.ensures.read (narrow g c.args.self s gs sh) ∙ ap (changed (cell_of c.args.self.number)) (reads_here g c.args.self s gs sh l ∙ n.reads)) in
     let many = sh.many in
     let one_less = ap length n.is in
     (n.first, n.others, n.is, p.0, record { shape = sh.shape; wide = sh.wide; many = omega arith; few = n.others_few; each = n.others_good; bytes = p.1 }, refl)

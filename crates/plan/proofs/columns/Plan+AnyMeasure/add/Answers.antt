@@ -1,20 +1,21 @@
-use Rattle.std.proofs.Common.{◌≡◌, length, set, refl, ap, ◌∙◌, arith}
+use Rattle.std.proofs.Common.{◌<◌, length, set, sym, ◌∙◌, arith, rules}
+use Rattle.std.proofs.lemmas.Bool.{lt-ltb, true≢false}
 use Rattle.words.specs.Tables.{texts}
 use Rattle.words.proofs.Tabling.{added_more}
 use Rattle.plan.specs.Drafts.{columns_of, paired}
 use Rattle.plan.proofs.Pairing.{paired_long, paired_more}
 use Rattle.plan.proofs.columns.Plan+AnyMeasure.add.Goals as goal
 
-pub returns-then-used-lt-MOST_COLUMNS : goal.returns-then-used-lt-MOST_COLUMNS
+pub returns-then-is_ok-clause-columns : goal.returns-then-is_ok-clause-columns
 unfolding columns_of
-returns-then-used-lt-MOST_COLUMNS c =
-    let long : c.len-used.result ≡ length (texts c.args.self.now.titles) = c.len-used.ensures.value in
-    record {
-      names = refl;
-      columns = (λ i. paired ((c.add.ensures.names ∙ added_more (texts c.args.self.now.titles) c.args.name.now (omega (arith, long, c.if-used-lt-MOST_COLUMNS.true))) i) ((c.put.ensures.places ∙ ap (λ n. set c.args.self.now.columns.places n c.args.column) long) i))
-          ∙ paired_more (texts c.args.self.now.titles) c.args.self.now.columns.places c.args.name.now c.args.column (omega (arith, long, c.put.ensures.within));
-    }
+returns-then-is_ok-clause-columns c =
+    let p = c.args.self.now in
+    let few : length (texts p.titles) < 8 = omega (arith, c.requires, paired_long (texts p.titles) p.columns.places) in
+    (λ i. paired ((c.add.ensures.names ∙ added_more (texts p.titles) c.args.name.now few) i) (set p.columns.places (c.len-place.ensures.value i) c.args.column))
+    ∙ paired_more (texts p.titles) p.columns.places c.args.name.now c.args.column (search rules)
 
-pub returns-else-used-lt-MOST_COLUMNS : goal.returns-else-used-lt-MOST_COLUMNS
+pub returns-else-is_ok-clause-columns : goal.returns-else-is_ok-clause-columns
 unfolding columns_of
-returns-else-used-lt-MOST_COLUMNS c = absurd (omega (arith, c.requires, c.len-used.ensures.value, c.if-used-lt-MOST_COLUMNS.false, paired_long (texts c.args.self.now.titles) c.args.self.now.columns.places))
+returns-else-is_ok-clause-columns c =
+    let p = c.args.self.now in
+    absurd (true≢false (sym (lt-ltb (length (texts p.titles)) 8 (omega (arith, c.requires, paired_long (texts p.titles) p.columns.places))) ∙ sym c.add.ensures.value ∙ sym c.is_ok.ensures.value ∙ c.if-is_ok.false))

@@ -1,22 +1,14 @@
-use Rattle.std.proofs.Common.{min, sym, ◌∙◌, arith, rules}
+use Rattle.std.proofs.Common.{◌≡◌, List, ℕ, Bor, length, min, take, ap, ◌∙◌, arith, rules}
+use Rattle.std.specs.List.{position_from}
+use Rattle.words.specs.Lexemes.{same}
 use Rattle.words.specs.Tables.{texts}
-use Rattle.words.proofs.Tabling.{hit, miss, past}
+use Rattle.words.proofs.Tabling.{long, place_read}
 use Rattle.words.proofs.names.Table.find.Goals as goal
 
-pub returns-then-is_same : goal.returns-then-is_same
+pub returns-clause-value : goal.returns-clause-value
 unfolding texts
-returns-then-is_same c = record {
-  value = sym (c.loop-i.invariant.1 ∙ hit c.args.self.now.words (min c.args.self.now.used 8) c.loop-i.i _ c.args.word.now (omega (arith, c.len-used.ensures.value, c.loop-i-test.true)) (sym c.if-is_same.ensures));
-  small = search rules;
-}
-
-pub loop-i-preserved : goal.loop-i-preserved
-unfolding texts
-loop-i-preserved c = (omega arith, c.loop-i.invariant.1 ∙ miss c.args.self.now.words (min c.args.self.now.used 8) c.loop-i.i _ c.args.word.now (omega (arith, c.len-used.ensures.value, c.loop-i-test.true)) (sym c.if-is_same.ensures))
-
-pub returns : goal.returns
-unfolding texts
-returns c = record {
-  value = sym (c.loop-i.invariant.1 ∙ past c.args.self.now.words (min c.args.self.now.used 8) c.loop-i.i c.args.word.now (omega (arith, c.len-used.ensures.value, c.loop-i-test.false)));
-  small = tt;
-}
+returns-clause-value c =
+    let eight : length c.args.self.now.words ≡ 8 = search rules in
+    let n : c.len.result ≡ min c.args.self.now.used 8 = omega (arith, eight, c.len.ensures.value, long c.args.self.now.words (min c.args.self.now.used 8)) in
+    let kept : c.map.result ≡ c.place_of.result = search rules in
+    kept ∙ c.place_of.ensures.value ∙ ap (λ k. position_from (λ (x : Bor (List ℕ)). same x.now c.args.word.now) 0 (take k c.args.self.now.words)) n ∙ place_read (take (min c.args.self.now.used 8) c.args.self.now.words) c.args.word.now 0

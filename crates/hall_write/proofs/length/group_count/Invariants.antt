@@ -1,7 +1,0 @@
--- What was counted and what is left.
-use Rattle.std.proofs.Common.{◌≡◌, ◌+◌, ◌≤◌, length, drop}
-use Rattle.cells.specs.Columns.{column}
-use Rattle.hall_write.proofs.length.group_count.Given as goal
-
-abbrev pub invariant-loop-i : goal.invariant-loop-i
-invariant-loop-i g l = (l.count + length (column l.number (drop l.i l.cells)) ≡ length (column l.number l.cells)) × (l.count ≤ l.i)
