@@ -83,54 +83,53 @@ several = (
 )
 two = [([7], 1, 2), ([8], 1, 1)]
 cases = [
-    ("EXAMPLE", "the example", example()),
-    ("GREATEST_SUM", "the greatest sum of two rows", example(1_999_999_998)),
-    ("SUM_TOO_GREAT", "a sum too great for two rows", example(1_999_999_999)),
-    ("NO_ROWS", "no rows", head(2, 2, 0) + column(2, 1, 1, []) + column(1, 255, 0, [])),
-    ("OTHER_MARK", "another mark", example(mark=b"TLX")),
-    ("OTHER_VERSION", "another version", example(version=2)),
-    ("HIGH_VERSION", "version 257", example(version=257)),
-    ("NO_FIELDS", "no row fields", head(0, 1, 0) + column(1, 255, 0, [])),
-    ("NINE_FIELDS", "nine row fields", head(9, 1, 0) + column(1, 255, 0, [])),
-    ("NO_COLUMNS", "no columns", head(2, 0, 0)),
-    ("NINE_COLUMNS", "nine columns", head(2, 9, 0) + 9 * column(1, 255, 0, [])),
-    ("EIGHT_COLUMNS", "eight columns", head(8, 8, 0) + 8 * column(3, 7, 0b11110000, [])),
-    ("KIND_ZERO", "kind 0", head(2, 1, 0) + column(0, 255, 0, [])),
-    ("KIND_SIX", "kind 6", head(2, 1, 0) + column(6, 1, 0, [])),
-    ("COUNT_OF_A_FIELD", "a count of a field", head(2, 1, 0) + column(1, 1, 0, [])),
-    ("SUM_OF_NO_FIELD", "a sum of no field", head(2, 1, 0) + column(2, 255, 0, [])),
-    ("SUM_OF_FIELD_TWO", "a sum of field 2 of two", head(2, 1, 0) + column(2, 2, 0, [])),
-    ("MASK_PAST_FIELDS", "a mask past the fields", head(2, 1, 0) + column(1, 255, 4, [])),
-    ("MASK_OF_FIVE", "a mask of five fields", head(8, 1, 0) + column(1, 255, 31, [])),
-    ("MASK_OF_FOUR", "a mask of four fields", head(8, 1, 0) + column(1, 255, 30, [])),
-    ("COUNT_TOO_HIGH", "a group more than there is", head(2, 1, 2) + column(2, 1, 1, [([7], 2, 3)], 2)),
-    ("COUNT_TOO_LOW", "a group less than there is", head(2, 1, 2) + column(2, 1, 1, two, 1)),
-    ("KEY_TOO_HIGH", "a key over the range", example(key=1_000_000_000)),
-    ("KEY_HIGHEST", "the greatest key", example(key=LIMIT)),
-    ("KEY_TOO_LOW", "a key under the range", example(key=-1_000_000_000)),
-    ("KEY_LOWEST", "the least key", example(key=-LIMIT)),
-    ("EQUAL_KEYS", "equal keys", head(2, 1, 2) + column(2, 1, 1, [([7], 1, 2), ([7], 1, 1)])),
-    ("KEYS_DESCEND", "keys that descend", head(2, 1, 2) + column(2, 1, 1, two[::-1])),
-    ("KEYS_SIGNED", "a negative key first", head(2, 1, 2) + column(2, 1, 1, [([-7], 1, 2), ([7], 1, 1)])),
-    ("KEYS_UNSIGNED", "a negative key last", head(2, 1, 2) + column(2, 1, 1, [([7], 1, 2), ([-7], 1, 1)])),
-    ("GROUP_OF_NO_ROWS", "a group of no rows", head(2, 1, 2) + column(2, 1, 1, [([7], 2, 2), ([8], 0, 0)])),
-    ("ROWS_TOO_FEW", "counts that add to less", example(n=1)),
-    ("ROWS_TOO_MANY", "counts that add to more", example(n=3)),
-    ("ONE_COLUMN_SHORT", "one column of two adds to less", head(2, 2, 2) + column(1, 255, 0, [([], 2, 2)]) + column(1, 255, 0, [([], 1, 1)])),
-    ("COUNT_OFF", "a count that is not its rows", head(2, 1, 2) + column(1, 255, 0, [([], 2, 3)])),
-    ("LEAST_OUT_OF_RANGE", "a least value out of range", head(2, 1, 2) + column(3, 1, 0, [([], 2, 1_000_000_000)])),
-    ("MOST_ROWS", "a million rows", head(2, 1, 1_000_000) + column(1, 255, 0, [([], 1_000_000, 1_000_000)])),
-    ("TOO_MANY_ROWS", "a million rows and one", head(2, 1, 1_000_001) + column(1, 255, 0, [([], 1_000_001, 1_000_001)])),
-    ("BYTE_TOO_FEW", "a byte too few", example()[:-1]),
-    ("BYTE_TOO_MANY", "a byte too many", example() + b"\0"),
-    ("NOTHING", "no bytes", b""),
+    ("the example", example()),
+    ("the greatest sum of two rows", example(1_999_999_998)),
+    ("a sum too great for two rows", example(1_999_999_999)),
+    ("no rows", head(2, 2, 0) + column(2, 1, 1, []) + column(1, 255, 0, [])),
+    ("another mark", example(mark=b"TLX")),
+    ("another version", example(version=2)),
+    ("version 257", example(version=257)),
+    ("no row fields", head(0, 1, 0) + column(1, 255, 0, [])),
+    ("nine row fields", head(9, 1, 0) + column(1, 255, 0, [])),
+    ("no columns", head(2, 0, 0)),
+    ("nine columns", head(2, 9, 0) + 9 * column(1, 255, 0, [])),
+    ("eight columns", head(8, 8, 0) + 8 * column(3, 7, 0b11110000, [])),
+    ("kind 0", head(2, 1, 0) + column(0, 255, 0, [])),
+    ("kind 6", head(2, 1, 0) + column(6, 1, 0, [])),
+    ("a count of a field", head(2, 1, 0) + column(1, 1, 0, [])),
+    ("a sum of no field", head(2, 1, 0) + column(2, 255, 0, [])),
+    ("a sum of field 2 of two", head(2, 1, 0) + column(2, 2, 0, [])),
+    ("a mask past the fields", head(2, 1, 0) + column(1, 255, 4, [])),
+    ("a mask of five fields", head(8, 1, 0) + column(1, 255, 31, [])),
+    ("a mask of four fields", head(8, 1, 0) + column(1, 255, 30, [])),
+    ("a group more than there is", head(2, 1, 2) + column(2, 1, 1, [([7], 2, 3)], 2)),
+    ("a group less than there is", head(2, 1, 2) + column(2, 1, 1, two, 1)),
+    ("a key over the range", example(key=1_000_000_000)),
+    ("the greatest key", example(key=LIMIT)),
+    ("a key under the range", example(key=-1_000_000_000)),
+    ("the least key", example(key=-LIMIT)),
+    ("equal keys", head(2, 1, 2) + column(2, 1, 1, [([7], 1, 2), ([7], 1, 1)])),
+    ("keys that descend", head(2, 1, 2) + column(2, 1, 1, two[::-1])),
+    ("a negative key first", head(2, 1, 2) + column(2, 1, 1, [([-7], 1, 2), ([7], 1, 1)])),
+    ("a negative key last", head(2, 1, 2) + column(2, 1, 1, [([7], 1, 2), ([-7], 1, 1)])),
+    ("a group of no rows", head(2, 1, 2) + column(2, 1, 1, [([7], 2, 2), ([8], 0, 0)])),
+    ("counts that add to less", example(n=1)),
+    ("counts that add to more", example(n=3)),
+    ("one column of two adds to less", head(2, 2, 2) + column(1, 255, 0, [([], 2, 2)]) + column(1, 255, 0, [([], 1, 1)])),
+    ("a count that is not its rows", head(2, 1, 2) + column(1, 255, 0, [([], 2, 3)])),
+    ("a least value out of range", head(2, 1, 2) + column(3, 1, 0, [([], 2, 1_000_000_000)])),
+    ("a million rows", head(2, 1, 1_000_000) + column(1, 255, 0, [([], 1_000_000, 1_000_000)])),
+    ("a million rows and one", head(2, 1, 1_000_001) + column(1, 255, 0, [([], 1_000_001, 1_000_001)])),
+    ("a byte too few", example()[:-1]),
+    ("a byte too many", example() + b"\0"),
+    ("no bytes", b""),
 ]
 many = head(1, 1, 65535) + column(1, 255, 1, [([k], 1, 1) for k in range(65535)])
 
 
-def constant(name, data):
-    rows = [", ".join(f"0x{x:02x}" for x in data[i:i + 16]) for i in range(0, len(data), 16)]
-    return f"pub const {name}: [u8; {len(data)}] = [" + ",\n    ".join([""] + rows).lstrip(",") + "\n];\n"
+def listed(data):
+    return "[" + ", ".join(f"0x{x:02x}" for x in data) + "]"
 
 
 def word(ok):
@@ -139,9 +138,13 @@ def word(ok):
 
 with open("crates/hall_file_cases/src/cases.rt", "w") as f:
     f.write("// Files and other bytes, written by tools/hall_file_cases.py.\n")
-    f.write("\n".join(constant(name, data) for name, _, data in cases + [("SEVERAL", "", several)]))
+    f.write("// What each is, and its bytes.\n")
+    f.write(f"pub static CASES: [(&str, &[u8]); {len(cases)}] = [")
+    f.write(", ".join(f'("{text}", &{listed(data)})' for text, data in cases) + "];\n\n")
+    f.write("// A file of several columns.\n")
+    f.write(f"pub const SEVERAL: [u8; {len(several)}] = {listed(several)};\n")
 with open("crates/hall_file_cases/stdout", "w") as f:
-    for _, text, data in cases:
+    for text, data in cases:
         f.write(f"{text}: {word(well_made(data))}\n")
     f.write(f"65535 groups: {word(well_made(many))}\n")
     f.write(f"several columns: {word(well_made(several))}\n")

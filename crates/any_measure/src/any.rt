@@ -36,6 +36,7 @@ pub enum AnyValue {
     Extreme(Option<i32>),
 }
 
+// Each method goes by the kind: the five have values of three types, so that no `dyn` can stand for them all.
 impl Measure for AnyMeasure {
     type Value = AnyValue;
 

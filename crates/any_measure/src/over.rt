@@ -12,11 +12,12 @@ use measures::values::{MOST_ROWS, all_row_values};
 fn are_measured_rows(values: &[i32]) -> bool
     ensures { result ≡ are_measured_rows values.now }
 {
+    // `usize` has no `From<u32>`; `as` is proved to lose nothing
     values.len() <= MOST_ROWS as usize && all_row_values(values)
 }
 
-// The one-row values joined from the first on.
-fn joined<M: Measure>(measure: &M, values: &[i32]) -> M::Value
+// The value of some rows by their measured values: the one-row values joined from the first on.
+pub fn joined<M: Measure>(measure: &M, values: &[i32]) -> M::Value
     ensures { result ≡ fold (λ a v. (M.Measure.meaning measure.now).join a ((M.Measure.meaning measure.now).one (v ∷ []))) (M.Measure.meaning measure.now).none values.now }
 {
     values.iter().fold(measure.none(), |all, value| {
@@ -29,6 +30,7 @@ fn joined_answer(kind: AnyMeasure, values: &[i32]) -> Answer
     requires { are_measured_rows values.now ≡ true }
     ensures { result ≡ plain kind values.now }
 {
+    // there are few enough: `as` is proved to lose nothing, and `try_from` would have a case that never comes
     kind.answer(joined(&kind, values), values.len() as u32)
 }
 

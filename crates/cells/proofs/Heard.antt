@@ -1,7 +1,6 @@
 -- What contributions come to, whatever their order. Assumes nothing.
-use Rattle.std.proofs.Common.{◌≡◌, ℕ, ◌+◌, ◌<◌, ◌≤◌, Bool, true, false, cond, not, eqb, ◌||◌, ◌⊎◌, List, [], ◌∷◌, length, get_or, drop, is_some, Some, Decides, Ordering, Less, Equal, Greater, sym, refl, ap, ◌∙◌, subst, inl, inr, true≢false, arith}
+use Rattle.std.proofs.Common.{◌≡◌, ℕ, ◌+◌, ◌<◌, ◌≤◌, Bool, true, false, cond, not, eqb, ◌||◌, ◌⊎◌, List, [], ◌∷◌, length, get_or, is_some, Some, Decides, Ordering, Less, Equal, Greater, sym, refl, ap, ◌∙◌, subst, inl, inr, true≢false, arith}
 use Rattle.std.specs.List.{AllByRecursion, list_any}
-use Rattle.std.proofs.lemmas.List.{at_drop_more}
 use Rattle.std.proofs.ByRecursion.{all_from_every}
 use Rattle.std.proofs.lemmas.Bool.{eq-eqb}
 use Rattle.measures.specs.Values.{most_rows}
@@ -11,7 +10,7 @@ use Rattle.cells.specs.declared.cell.Cell.{Cell}
 use Rattle.cells.specs.Order.{order}
 use Rattle.cells.specs.Listed.{among, same_group, listed}
 use Rattle.cells.specs.Groups.{together, put, lookup, added, in_order, Apart, Sorted}
-use Rattle.cells.specs.Contributions.{Reordered, empty, keep, swap, chain, there, begins, beginning, ids, came_for, came_in, rows_of, heard_on, heard, join_of, total, Proper, Fair, Law}
+use Rattle.cells.specs.Contributions.{Reordered, empty, keep, swap, chain, there, beginning, ids, came_for, came_in, rows_of, heard_on, heard, join_of, total, Proper, Fair, Law}
 use Rattle.cells.proofs.Ordered.{same, itself, alike, equal, equal_Decides}
 use Rattle.cells.proofs.Lookups.{never, look_head, put_head, lookup_put_same, lookup_put_other, sorted_put, sorted_ext}
 use Rattle.cells.proofs.InOrder.{in_order_none, apart_tail, apart_head}
@@ -260,10 +259,6 @@ module _ {V : Type 0} (joins : ℕ → V → V → V) (gs : List (Cell V)) where
 -- one where something begins
 abbrev pub counted : Bool → ℕ
 counted b = cond b 1 0
-
--- how many groups begin with the ids from i on
-pub beginning_at : {V : Type 0} (gs : List (Cell V)) (ps : List GroupId) (i : ℕ) (d : GroupId) (b : Bool) → i < length ps → b ≡ begins (get_or ps i d) (drop (i + 1) ps) gs → beginning (drop i ps) gs ≡ counted b + beginning (drop (i + 1) ps) gs
-beginning_at gs ps i d b lt e = at_drop_more (λ l. beginning l gs) ps i d lt ∙ ap (λ t. counted t + beginning (drop (i + 1) ps) gs) (sym e)
 
 -- as many groups as cells, where no two are of one group
 pub length_in_order : {V : Type 0} (cs : List (Cell V)) → Apart cs → length (in_order cs) ≡ length cs

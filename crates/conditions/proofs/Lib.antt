@@ -1,3 +1,5 @@
+pub mod ByKind
+pub mod Keeping
 pub mod Moves
 pub mod Stacks
 pub mod Growth

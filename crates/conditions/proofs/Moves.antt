@@ -1,15 +1,15 @@
 -- How the words still to come go on, one word at a time. Assumes nothing.
 use Rattle.std.proofs.Common.{◌≡◌, ℕ, ◌+◌, ◌<◌, ◌≤◌, Bool, true, false, ltb, List, [], ◌∷◌, length, get_or, set, ℤ, Some, None, Ok, Err, Option, Result, IsErrAnd, sym, refl, ap, ◌∙◌, arith, Bor}
-use Rattle.std.proofs.lemmas.Bool.{true≢false, cond-true, cond-false, lt-ltb, le-ltb}
+use Rattle.std.proofs.lemmas.Bool.{cond-true, cond-false, lt-ltb, le-ltb}
 use Rattle.text.specs.declared.refusal.Refusal.{Refusal}
-use Rattle.words.specs.Lexemes.{Lexeme, name, reserved, number, sign, shift, bracket, other, feed, cut, seen}
+use Rattle.words.specs.Lexemes.{Lexeme, name, reserved, number, sign, bracket, other, feed, cut, seen}
 use Rattle.words.specs.Spots.{Spot, past}
 use Rattle.words.specs.Cutting.{next, later, to_come, here}
 use Rattle.words.specs.declared.signs.Sign.{Sign}
 use Rattle.words.specs.declared.tokens.Token.{Token}
 use Rattle.words.specs.declared.tokens.Token.TheVariants as token
 use Rattle.conditions.specs.Trees.{Tree, bracketed}
-use Rattle.conditions.specs.Machine.{Fault, form, limit, refusal, Seen, Names, Prefix, deny, along, Level, Place, Side, left, right, State, term, operand, field, by, compared, after, Move, go, stop, done, settle, joined, arrived, onward, step, run, found, begin, first, opens, follows, deeper, denied, inside, deep, note, noted, opening, joining, Outcome, refused, accepted}
+use Rattle.conditions.specs.Machine.{Fault, form, limit, refusal, Seen, Names, Prefix, deny, along, Level, Place, Side, left, right, State, term, operand, field, by, compared, after, Move, go, stop, done, settle, joined, arrived, onward, step, run, found, begin, first, opens, follows, deeper, deep, note, noted, opening, joining, Outcome, refused, accepted}
 use Rattle.conditions.specs.Promises.{seen_by, pick, rest, onto, Leads, On, Counts, opened, NoAnd, NoOr}
 use Rattle.conditions.specs.declared.condition.Operand.{Operand}
 use Rattle.conditions.specs.declared.condition.Operand.TheVariants.{Number, Row, Base}
@@ -18,10 +18,11 @@ use Rattle.conditions.specs.declared.condition.Shift.TheVariants.{Bare}
 use Rattle.conditions.specs.declared.condition.Found.{Found}
 use Rattle.conditions.specs.declared.condition.Found.TheVariants.{Value, RowField, BaseField}
 use Rattle.conditions.specs.declared.reader.Opening.{Opening}
-use Rattle.conditions.specs.declared.reader.Opening.TheVariants.{Denial, Bracket, Plain}
+use Rattle.conditions.specs.declared.reader.Opening.TheVariants.{Plain}
 use Rattle.conditions.specs.declared.reader.Joining.{Joining}
 use Rattle.conditions.specs.declared.reader.Joining.TheVariants.{And, Or, Close, End}
 use Rattle.conditions.specs.declared.reader.Reader.{Reader}
+use Rattle.conditions.proofs.ByKind.{by_token}
 
 -- the next word of a reader
 abbrev pub ahead : Reader → Lexeme
@@ -114,65 +115,24 @@ counting r q s o w e l =
       (omega (arith, o.more, e), o.few (omega (arith, e, l))),
     )
 
--- a word that is not `+` or `-`
-abbrev pub is_shift : Lexeme → Bool
-is_shift (shift b) = true
-is_shift (name u w) = false
-is_shift (reserved k) = false
-is_shift (number z) = false
-is_shift (sign s) = false
-is_shift (bracket b) = false
-is_shift other = false
-is_shift feed = false
-is_shift cut = false
-
 -- a field with nothing added
-pub unshifted : (e : Names) (σ : Seen) (p : Place) (side : Side) (mk : Shift → Operand) (x : Lexeme) → is_shift x ≡ false → step e σ (field p side mk) x ≡ step e σ (arrived p side (mk Bare)) x
-unshifted e σ p side mk (shift b) h = absurd (true≢false h)
-unshifted e σ p side mk (name u w) h = arrived_on e σ p side (mk Bare) (name u w)
-unshifted e σ p side mk (reserved k) h = arrived_on e σ p side (mk Bare) (reserved k)
-unshifted e σ p side mk (number z) h = arrived_on e σ p side (mk Bare) (number z)
-unshifted e σ p side mk (sign s) h = arrived_on e σ p side (mk Bare) (sign s)
-unshifted e σ p side mk (bracket b) h = arrived_on e σ p side (mk Bare) (bracket b)
-unshifted e σ p side mk other h = arrived_on e σ p side (mk Bare) other
-unshifted e σ p side mk feed h = arrived_on e σ p side (mk Bare) feed
-unshifted e σ p side mk cut h = arrived_on e σ p side (mk Bare) cut
-
--- tokens of one kind
-pub not_shift : (t : Token) → ((a : Bor (List ℕ)) (b : Bool) (l w : ℕ) → t ≡ token.Shift a b l w → ⊥) → is_shift (seen t) ≡ false
-not_shift (token.Shift a b l w) h = absurd (h a b l w refl)
-not_shift (token.Name a u l w) h = refl
-not_shift (token.Reserved a k l w) h = refl
-not_shift (token.Number a z l w) h = refl
-not_shift (token.Sign a s l w) h = refl
-not_shift (token.Bracket a b l w) h = refl
-not_shift (token.Other a l w) h = refl
-not_shift (token.LineEnd l w) h = refl
-not_shift (token.TextEnd l w) h = refl
+pub unshifted : (e : Names) (σ : Seen) (p : Place) (side : Side) (mk : Shift → Operand) (t : Token) → ((a : Bor (List ℕ)) (b : Bool) (l w : ℕ) → t ≡ token.Shift a b l w → ⊥) → step e σ (field p side mk) (seen t) ≡ step e σ (arrived p side (mk Bare)) (seen t)
+unshifted e σ p side mk =
+    let on : (x : Lexeme) → onward σ (arrived p side (mk Bare)) x ≡ step e σ (arrived p side (mk Bare)) x = arrived_on e σ p side (mk Bare) in
+    by_token (λ t. ((a : Bor (List ℕ)) (b : Bool) (l w : ℕ) → t ≡ token.Shift a b l w → ⊥) → step e σ (field p side mk) (seen t) ≡ step e σ (arrived p side (mk Bare)) (seen t))
+    (λ a u l w h. on (name u a.now)) (λ a k l w h. on (reserved k)) (λ a z l w h. on (number z)) (λ a s l w h. on (sign s)) (λ a b l w h. absurd (h a b l w refl)) (λ a b l w h. on (bracket b)) (λ a l w h. on other) (λ l w h. on feed) (λ l w h. on cut)
 
 -- what is added is a number
 pub by_none : (e : Names) (σ : Seen) (p : Place) (side : Side) (mk : Shift → Operand) (plus : Bool) (t : Token) → ((a : Bor (List ℕ)) (z : ℤ) (l w : ℕ) → t ≡ token.Number a z l w → ⊥) → step e σ (by p side mk plus) (seen t) ≡ stop form
-by_none e σ p side mk plus (token.Number a z l w) h = absurd (h a z l w refl)
-by_none e σ p side mk plus (token.Shift a b l w) h = refl
-by_none e σ p side mk plus (token.Name a u l w) h = refl
-by_none e σ p side mk plus (token.Reserved a k l w) h = refl
-by_none e σ p side mk plus (token.Sign a s l w) h = refl
-by_none e σ p side mk plus (token.Bracket a b l w) h = refl
-by_none e σ p side mk plus (token.Other a l w) h = refl
-by_none e σ p side mk plus (token.LineEnd l w) h = refl
-by_none e σ p side mk plus (token.TextEnd l w) h = refl
+by_none e σ p side mk plus =
+    by_token (λ t. ((a : Bor (List ℕ)) (z : ℤ) (l w : ℕ) → t ≡ token.Number a z l w → ⊥) → step e σ (by p side mk plus) (seen t) ≡ stop form)
+    (λ a u l w h. refl) (λ a k l w h. refl) (λ a z l w h. absurd (h a z l w refl)) (λ a s l w h. refl) (λ a b l w h. refl) (λ a b l w h. refl) (λ a l w h. refl) (λ l w h. refl) (λ l w h. refl)
 
 -- a sign stands between two operands
 pub sign_none : (e : Names) (σ : Seen) (p : Place) (o : Operand) (t : Token) → ((a : Bor (List ℕ)) (s : Sign) (l w : ℕ) → t ≡ token.Sign a s l w → ⊥) → step e σ (compared p o) (seen t) ≡ stop form
-sign_none e σ p o (token.Sign a s l w) h = absurd (h a s l w refl)
-sign_none e σ p o (token.Number a z l w) h = refl
-sign_none e σ p o (token.Shift a b l w) h = refl
-sign_none e σ p o (token.Name a u l w) h = refl
-sign_none e σ p o (token.Reserved a k l w) h = refl
-sign_none e σ p o (token.Bracket a b l w) h = refl
-sign_none e σ p o (token.Other a l w) h = refl
-sign_none e σ p o (token.LineEnd l w) h = refl
-sign_none e σ p o (token.TextEnd l w) h = refl
+sign_none e σ p o =
+    by_token (λ t. ((a : Bor (List ℕ)) (s : Sign) (l w : ℕ) → t ≡ token.Sign a s l w → ⊥) → step e σ (compared p o) (seen t) ≡ stop form)
+    (λ a u l w h. refl) (λ a k l w h. refl) (λ a z l w h. refl) (λ a s l w h. absurd (h a s l w refl)) (λ a b l w h. refl) (λ a b l w h. refl) (λ a l w h. refl) (λ l w h. refl) (λ l w h. refl)
 
 -- an operand's first word, by what it is
 module _ (e : Names) (r : Reader) (p : Place) (side : Side) where
@@ -217,23 +177,13 @@ module _ (e : Names) (r : Reader) (p : Place) where
   opening_on : (k : Opening) → k ≡ opening (ahead r) → rest e r (term p) ≡ onto e r (opens e (seen_by r) p (ahead r) k)
   opening_on k h = moves e r (term p) ∙ ap (λ y. onto e r (opens e (seen_by r) p (ahead r) y)) (sym h)
 
-  deeper_on : (q : Place) → deep p < 8 → deeper (seen_by r) p q ≡ go (term q) (seen_by r)
-  deeper_on q h = cond-true (ltb (deep p) 8) _ _ (lt-ltb _ 8 h)
+  -- a `not`, and a bracket: the term after it stands at q, one level deeper
+  module _ (k : Opening) (q : Place) (is : opens e (seen_by r) p (ahead r) k ≡ deeper (seen_by r) p q) where
+    pub deepens : (s : Reader) → k ≡ opening (ahead r) → deep p < 8 → Advanced r s → rest e r (term p) ≡ rest e s (term q)
+    deepens s h d a = opening_on k h ∙ ap (onto e r) (is ∙ cond-true (ltb (deep p) 8) _ _ (lt-ltb _ 8 d)) ∙ a e _
 
-  deeper_not : (q : Place) → 8 ≤ deep p → deeper (seen_by r) p q ≡ stop limit
-  deeper_not q h = cond-false (ltb (deep p) 8) _ _ (le-ltb _ 8 h)
-
-  pub denies : (s : Reader) → Denial ≡ opening (ahead r) → deep p < 8 → Advanced r s → rest e r (term p) ≡ rest e s (term (denied p))
-  denies s h d a = opening_on Denial h ∙ ap (onto e r) (deeper_on (denied p) d) ∙ a e _
-
-  pub enters : (s : Reader) → Bracket ≡ opening (ahead r) → deep p < 8 → Advanced r s → rest e r (term p) ≡ rest e s (term (inside p))
-  enters s h d a = opening_on Bracket h ∙ ap (onto e r) (deeper_on (inside p) d) ∙ a e _
-
-  pub denied_too_deep : (y : Refusal) → Denial ≡ opening (ahead r) → 8 ≤ deep p → y ≡ refusal limit (here r.words) → rest e r (term p) ≡ refused y
-  denied_too_deep y h d g = opening_on Denial h ∙ ap (onto e r) (deeper_not (denied p) d) ∙ tells e r limit y g
-
-  pub bracket_too_deep : (y : Refusal) → Bracket ≡ opening (ahead r) → 8 ≤ deep p → y ≡ refusal limit (here r.words) → rest e r (term p) ≡ refused y
-  bracket_too_deep y h d g = opening_on Bracket h ∙ ap (onto e r) (deeper_not (inside p) d) ∙ tells e r limit y g
+    pub too_deep : (y : Refusal) → k ≡ opening (ahead r) → 8 ≤ deep p → y ≡ refusal limit (here r.words) → rest e r (term p) ≡ refused y
+    too_deep y h d g = opening_on k h ∙ ap (onto e r) (is ∙ cond-false (ltb (deep p) 8) _ _ (le-ltb _ 8 d)) ∙ tells e r limit y g
 
   pub plainly : Plain ≡ opening (ahead r) → rest e r (term p) ≡ onto e r (first (seen_by r) p (found e (ahead r)))
   plainly h = opening_on Plain h
@@ -257,29 +207,29 @@ unclosed σ o t l ls (Some End) a b c = refl
 unclosed σ o t l ls None a b c = refl
 
 -- what follows a term
-module _ (e : Names) (r : Reader) (o : Option Tree) (t : Tree) (ls : List Level) where
-  joining_on : (j : Option Joining) → j ≡ joining (ahead r) → rest e r (after o t ls) ≡ onto e r (follows (seen_by r) o t ls j)
-  joining_on j h = moves e r (after o t ls) ∙ ap (λ y. onto e r (follows (seen_by r) o t ls y)) (sym h)
+joining_on : (e : Names) (r : Reader) (o : Option Tree) (t : Tree) (ls : List Level) (j : Option Joining) → j ≡ joining (ahead r) → rest e r (after o t ls) ≡ onto e r (follows (seen_by r) o t ls j)
+joining_on e r o t ls j h = moves e r (after o t ls) ∙ ap (λ y. onto e r (follows (seen_by r) o t ls y)) (sym h)
 
+module _ (e : Names) (r : Reader) (o : Option Tree) (t : Tree) (ls : List Level) where
   pub joins_and : (s : Reader) → Some And ≡ joining (ahead r) → Advanced r s → rest e r (after o t ls) ≡ rest e s (term (record { here = record { before = along t ∷ []; ors = o }; outer = ls }))
-  joins_and s h a = joining_on (Some And) h ∙ a e _
+  joins_and s h a = joining_on e r o t ls (Some And) h ∙ a e _
 
   pub joins_or : (s : Reader) → Some Or ≡ joining (ahead r) → Advanced r s → rest e r (after o t ls) ≡ rest e s (term (opened (Some (joined o t)) ls))
-  joins_or s h a = joining_on (Some Or) h ∙ a e _
+  joins_or s h a = joining_on e r o t ls (Some Or) h ∙ a e _
 
   pub closes : (s : Reader) (l : Level) → Some Close ≡ joining (ahead r) → Advanced r s → rest e r (after o t (l ∷ ls)) ≡ rest e s (settle l.before (bracketed (joined o t)) l.ors ls)
-  closes s l h a = moves e r (after o t (l ∷ ls)) ∙ ap (λ y. onto e r (follows (seen_by r) o t (l ∷ ls) y)) (sym h) ∙ a e _
+  closes s l h a = joining_on e r o t (l ∷ ls) (Some Close) h ∙ a e _
 
   pub shuts : NoAnd r → rest e r (after o t ls) ≡ rest e r (after None (joined o t) ls)
   shuts n = moves e r (after o t ls) ∙ ap (onto e r) (shut (seen_by r) o t ls (joining (ahead r)) n) ∙ sym (moves e r (after None (joined o t) ls))
 
   pub not_closed : (l : Level) (y : Refusal) → NoAnd r → NoOr r → (joining (ahead r) ≡ Some Close → ⊥) → y ≡ refusal form (here r.words) → rest e r (after o t (l ∷ ls)) ≡ refused y
-  not_closed l y a b c g = moves e r (after o t (l ∷ ls)) ∙ ap (onto e r) (unclosed (seen_by r) o t l ls (joining (ahead r)) a b c) ∙ tells e r form y g
+  not_closed l y a b c g = refuses e r (after o t (l ∷ ls)) _ form y refl (unclosed (seen_by r) o t l ls (joining (ahead r)) a b c) g
 
 -- the end of a condition
 pub ended : (e : Names) (r : Reader) (t : Tree) → Some End ≡ joining (ahead r) → rest e r (after None t []) ≡ accepted t (seen_by r) (past (ahead r) (here r.words)) (later (to_come r.words))
 unfolding onto
-ended e r t h = moves e r (after None t []) ∙ ap (λ y. onto e r (follows (seen_by r) None t [] y)) (sym h)
+ended e r t h = joining_on e r None t [] (Some End) h
 
 unended : (σ : Seen) (t : Tree) (j : Option Joining) → (j ≡ Some And → ⊥) → (j ≡ Some Or → ⊥) → (j ≡ Some End → ⊥) → follows σ None t [] j ≡ stop form
 unended σ t (Some And) a b c = absurd (a refl)
@@ -289,4 +239,4 @@ unended σ t (Some End) a b c = absurd (c refl)
 unended σ t None a b c = refl
 
 pub not_ended : (e : Names) (r : Reader) (t : Tree) (y : Refusal) → NoAnd r → NoOr r → (joining (ahead r) ≡ Some End → ⊥) → y ≡ refusal form (here r.words) → rest e r (after None t []) ≡ refused y
-not_ended e r t y a b c g = moves e r (after None t []) ∙ ap (onto e r) (unended (seen_by r) t (joining (ahead r)) a b c) ∙ tells e r form y g
+not_ended e r t y a b c g = refuses e r (after None t []) _ form y refl (unended (seen_by r) t (joining (ahead r)) a b c) g

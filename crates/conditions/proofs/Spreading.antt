@@ -24,11 +24,11 @@ module _ (row : List ℤ) (fs : List Bool) (vs : List ℤ) (i : ℕ) (all : List
 pub spread_all : (row : List ℤ) (fs : List Bool) (vs : List ℤ) (i : ℕ) (all : List ℤ) → length row ≤ i → length fs ≤ i → take i row ++ spread (drop i fs) vs ≡ all → row ≡ all
 spread_all row fs vs i all p q e = sym (append-nil row) ∙ (λ k. sym (take_all i row p) k ++ spread (sym (drop_all i fs q) k) vs) ∙ e
 
--- at first a row holds zeros
-pub zeros : (n k : ℕ) → get_or (replicate n (pos 0)) k (pos 0) ≡ pos 0
-zeros zero k = refl
-zeros (suc n) zero = refl
-zeros (suc n) (suc k) = zeros n k
+-- what is filled with one value has it everywhere
+pub all_same : {X : Type 0} (n k : ℕ) (d : X) → get_or (replicate n d) k d ≡ d
+all_same zero k d = refl
+all_same (suc n) zero d = refl
+all_same (suc n) (suc k) d = all_same n k d
 
 pub zeros_past : (row : List ℤ) (i : ℕ) (v : ℤ) → ((k : ℕ) → i ≤ k → get_or row k (pos 0) ≡ pos 0) → (k : ℕ) → i + 1 ≤ k → get_or (set row i v) k (pos 0) ≡ pos 0
 zeros_past row i v h k l = get_or-set_other row i k v (pos 0) (λ e. omega (arith, e, l)) ∙ h k (omega (arith, l))

@@ -40,6 +40,7 @@ pub struct Comparison {
     pub right: Operand,
 }
 
+// Steps are read from text, copied and told apart, so they are an enum and no closures.
 // A comparison goes onto a stack; `not` turns the top, a bracket leaves it, `and` and `or` join the two topmost.
 #[derive(Clone, Copy)]
 pub enum Step {

@@ -20,7 +20,8 @@ fn moved_by(value: i32, by: Shift) -> i64
     }
 }
 
-// An operand's value.
+// An operand's value. The row and the base row stand side by side here and below, as they do in the definition of what
+// a condition says, and as a caller has them: a struct of the two would be made to be taken apart.
 fn amount_of(operand: Operand, row: &[i32], base: &[i32]) -> i64
     ensures { result ≡ amount row.now base.now operand }
 {

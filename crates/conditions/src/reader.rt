@@ -6,6 +6,7 @@ use words::cursor::Words;
 pub struct Reader<'a> {
     pub words: Words<'a>,
     pub comparisons: usize,
+    // how many of the fields are read, as the definition of what was seen has it: to count the flags anew is no plainer
     pub different: usize,
     pub fields: [bool; MOST_FIELDS],
 }

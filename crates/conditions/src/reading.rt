@@ -75,7 +75,7 @@ fn levels() -> u8
 }
 
 // Whether one comparison more is within the limit.
-// This and the next are not one function of a limit: so the contract of each names what its constant has to be.
+// This and the next are not one function of a limit, so that a wrong limit is refused at the contract that names it.
 fn may_compare(comparisons: usize) -> bool
     ensures { result ≡ nat_lt comparisons 16 }
 {
@@ -90,7 +90,9 @@ fn may_read(different: usize) -> bool
 }
 
 impl FieldNames<'_> {
-    // The field that a name is: a row field first.
+    // The field that a name is: a row field first. That its number is below 8 is said by `known`, here and below, and not
+    // by a type: `Found` and `Operand`, which hold it, are public and take any number.
+    #[tactic(auto, unfolding(crate::specs::Promises::looks))]
     fn field(&self, word: &[u8]) -> Result<Found, Wrong>
         ensures value { result ≡ looks self.now word.now }
         ensures known { IfOk result Known }
@@ -283,7 +285,7 @@ impl<'a> Reader<'a> {
     }
 
     // Terms joined by `and`.
-    // Not one function with the next: terms joined by `and` may stand after an `or`, so that its promise is another.
+    // Not one function with the next: one of a joining would promise both, by cases, and still call a function for each.
     #[cycle(conjunction_disjunction_term)]
     fn conjunction(
         &mut self,

@@ -6,6 +6,7 @@ use crate::condition::{Condition, MOST_STEPS, Step};
 
 impl Condition {
     // The condition that is always true.
+    #[tactic(auto, unfolding(crate::specs::Postfix::trees))]
     pub fn always() -> Condition
         ensures none { trees result ≡ [] }
         ensures unused { result.used ≡ 0 }
@@ -17,6 +18,7 @@ impl Condition {
     }
 
     // One step more.
+    #[tactic(auto, using(crate::proofs::Stacks::pushed), unfolding(crate::specs::Postfix::trees))]
     pub(crate) fn push(&mut self, step: Step)
         requires { self.old.used < 159 }
         ensures trees { trees self.new ≡ grow step (trees self.old) }

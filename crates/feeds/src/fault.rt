@@ -31,13 +31,13 @@ impl fmt::Display for Layer {
 pub enum Fault {
     // a line of a sheet breaks the form; lines count from 1
     BadLine { line: usize },
-    // a tally refused a row; rows count from 1 as the feed gave them, and 0 is the feed itself
+    // a tally refused a row; rows count from 1 as the feed gave them, and 0 is the feed itself: so it is published
     RefusedRow { refusal: Refusal, row: usize },
 }
 
 // A whole fault has no `Display`: each program words it in its own way.
 impl Fault {
-    // The published number of the refusal behind it.
+    // The published number of the refusal behind it. Code goes by the enum; only what is told has the number.
     pub fn number(&self) -> u8
         ensures { result ≡ (published_fault self.now).number }
     {

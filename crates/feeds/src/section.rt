@@ -24,18 +24,11 @@ fn is_section(field: usize, value: i32, width: usize) -> bool
     field < width && is_row_value(value)
 }
 
-// Whether two values are the same.
+// Whether two values are the same: what a section goes by, under a contract of its own.
 fn is_same(a: i32, b: i32) -> bool
     ensures { result ≡ same_number a b }
 {
     a == b
-}
-
-// Whether a row of a width has a value in a field.
-fn has(row: &Row, width: usize, field: usize, value: i32) -> bool
-    ensures { result ≡ hits field value (cut width row.now) }
-{
-    field < width && is_same(value_at(row, field), value)
 }
 
 impl<F: Feed> Section<F> {
@@ -47,6 +40,13 @@ impl<F: Feed> Section<F> {
             return Err((feed, Refusal::FeedRange));
         }
         Ok(Section { feed, field, value })
+    }
+
+    // Whether a row of a width is one of the section.
+    fn has(&self, row: &Row, width: usize) -> bool
+        ensures { result ≡ hits self.now.field self.now.value (cut width row.now) }
+    {
+        self.field < width && is_same(value_at(row, self.field), self.value)
     }
 
     // The feed below, with the rows that it still has.
@@ -72,7 +72,7 @@ impl<F: Feed> Feed for Section<F> {
     fn next(&mut self) -> Result<Option<Row>, Fault> {
         let width = self.feed.width();
         while let Some(row) = self.feed.next()? {
-            if has(&row, width, self.field, self.value) {
+            if self.has(&row, width) {
                 return Ok(Some(row));
             }
         }

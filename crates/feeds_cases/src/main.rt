@@ -122,7 +122,7 @@ fn print_left<F: Feed>(rt: &HostRuntime, feed: &mut F) -> io::Result<()> {
     print_end(rt, left.end)
 }
 
-// Prints a refusal.
+// Prints a refusal: its number alone, in other words than its `Display`.
 fn print_refusal(rt: &HostRuntime, refusal: Refusal) -> io::Result<()> {
     let number = refusal.number();
     println!(rt; "  refused {number}")

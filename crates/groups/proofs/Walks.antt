@@ -4,7 +4,6 @@ use Rattle.std.proofs.lemmas.List.{get_or-map, length-map, get_or-take, length-t
 use Rattle.std.proofs.lemmas.Bool.{cases_lt}
 use Rattle.cells.specs.declared.id.GroupId.{GroupId}
 use Rattle.cells.specs.declared.cell.Cell.{Cell}
-use Rattle.cells.specs.Groups.{Absent}
 use Rattle.cells.specs.declared.place.Place.{Place}
 use Rattle.groups.specs.Chains.{Link, Chained, cells_of, heads, buckets, live, emptied, bucket_of}
 
@@ -84,6 +83,3 @@ module _ {V : Type 0} (xs : List (Place V)) (used : ℕ) (within : used ≤ leng
 module _ {V : Type 0} (xs : List (Place V)) (used : ℕ) (within : used ≤ length xs) (p : GroupId) where
   pub found_at : (i : ℕ) (s : Place V) → i < used → (get_or xs i s).cell.id ≡ p → (i < length (live used xs)) × ((d : Cell V) → (get_or (live used xs) i d).id ≡ p)
   found_at i s h e = let l = length_live xs used within in (omega arith, λ d. ap (λ c. c.id) (live_at xs used i d s h within) ∙ e)
-
-  pub found_none : ((k : ℕ) (d : Cell V) → 0 ≤ k → k < used → (get_or (cells_of xs) k d).id ≡ p → ⊥) → Absent p (live used xs)
-  found_none w k d h e = let l = length_live xs used within in let lt : k < used = omega arith in w k d (omega arith) lt (ap (λ c. c.id) (sym (get_or-take used (cells_of xs) k d lt)) ∙ e)

@@ -1,6 +1,6 @@
 // Cells in order of arrival, found by hash chains that lie inside the places. Each function works on a
-// lent slice, of whose places the first `used` are live; a struct of the two would hold its invariant
-// only between the writes here, and OpenGroups holds it there.
+// lent slice, of whose places the first `used` are live. The chains are broken between the writes here, so a struct of
+// the two could have no invariant that says they are whole; OpenGroups has it, where they are.
 ghost use Rattle.std.specs.Prelude.{◌≡◌, ℕ, ◌+◌, ◌^◌, ◌<◌, ◌≤◌, length, drop, slice_index_or, slice_set, MatchOption};
 ghost use Rattle.cells.specs.Groups.{in_order, Apart};
 ghost use Rattle.cells.specs.Groups.{grown as has_grown};
@@ -19,6 +19,7 @@ fn bucket(id: &GroupId, count: usize) -> usize
     ensures value { result ≡ bucket_of id.now count }
     ensures bound { result < count }
 {
+    // between `u64` and `usize` there is no `From`; `as` is proved to lose nothing
     (id.hash() % count as u64) as usize
 }
 
@@ -26,6 +27,7 @@ fn bucket(id: &GroupId, count: usize) -> usize
 fn target(link: u32) -> Option<usize>
     ensures { MatchOption result (link ≡ 0) (λ i. i + 1 ≡ link) }
 {
+    // `usize` has no `From<u32>`; `as` is proved to lose nothing
     let above = link as usize;
     if is_end(above) { None } else { Some(above - 1) }
 }
@@ -71,6 +73,7 @@ fn link<V: Copy>(places: &mut [Place<V>], i: usize)
     let b = bucket(&places[i].cell.id, count);
     let newest = places[b].head;
     places[i] = places[i].with_next(newest);
+    // there are fewer places than links: `as` is proved to lose nothing, and `try_from` would have a case that never comes
     places[b] = places[b].with_head((i + 1) as u32);
 }
 

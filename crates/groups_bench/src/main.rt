@@ -16,6 +16,7 @@ const PLACES: usize = 65_535;
 
 fn contribution(random: u64, keys: u64) -> Cell<i64> {
     let spread = (random / 0x1_0000_0000).checked_rem(keys).unwrap_or(0);
+    // each number is below its modulus, so that `as` is proved to lose nothing
     let key = (spread.wrapping_mul(40_503) % 0x1_0000_0000) as u32;
     Cell {
         id: GroupId {

@@ -1,5 +1,6 @@
 pub mod Masks
 pub mod Forms
+pub mod Laws
 pub mod Heads
 pub mod Steps
 pub mod Checks

@@ -1,66 +1,52 @@
 -- The readers of keys, values, groups and columns, step by step as the code goes.
-use Rattle.std.proofs.Common.{◌≡◌, ℕ, zero, suc, ◌+◌, ◌-◌, ◌<◌, ◌≤◌, true, false, eqb, List, [], ◌∷◌, ◌++◌, length, get_or, take, drop, set, replicate, ℤ, pos, Some, None, Option, sym, refl, ap, ◌∙◌, arith}
-use Rattle.std.proofs.lemmas.List.{take-append-drop, append-nil, append_assoc, take_more_set, drop-set-lt, length-take-le, length-set, drop_more}
+use Rattle.std.proofs.Common.{◌≡◌, ℕ, zero, suc, ◌+◌, ◌-◌, ◌<◌, ◌≤◌, true, false, eqb, List, [], ◌∷◌, ◌++◌, length, get_or, take, drop, set, replicate, ℤ, pos, Some, None, Option, sym, refl, ap, ◌∙◌, arith, w32, SFits, to_z, of_z}
+use Rattle.std.proofs.lemmas.Int.{to_z-of_z}
+use Rattle.std.proofs.lemmas.List.{append_assoc, take_more_set, length-set, drop-replicate}
 use Rattle.std.proofs.lemmas.Bool.{cond-true, cond-false, eq-eqb, ne_eqb}
 use Rattle.measures.specs.Meaning.{Meaning}
 use Rattle.cells.specs.declared.cell.Cell.{Cell}
 use Rattle.cells.specs.Columns.{Group, cell_of, group as group_in}
 use Rattle.readers.specs.Readers.{changed, go_on, kept, picked, with_rest, after, seq, times, number}
 use Rattle.readers.proofs.Inverses.{none_some}
-use Rattle.readers.proofs.Steps.{kept_yes, kept_no, changed_like, after_changed, listed, times_step, times_none, bytes_short, bytes_in}
+use Rattle.readers.proofs.Steps.{kept_yes, kept_no, changed_like, after_changed, listed, times_step, bytes_short, bytes_in}
 use Rattle.hall_file.specs.declared.shape.ColumnShape.{ColumnShape}
 use Rattle.hall_file.specs.Written.{Column, width}
 use Rattle.hall_file.specs.Rules.{is_after}
 use Rattle.hall_file.specs.Reading.{int, padded, key, if_possible, value, rows, group, groups, shape, column}
 
--- a key of which i values are in place
-pub record Filled (w : ℕ) (start : List ℕ) (i : ℕ) (ks : List ℤ) (rest : List ℕ) : Type 0 where
-  pub four : length ks ≡ 4
-  pub zeros : drop i ks ≡ replicate (4 - i) (pos 0)
-  pub same : key w start ≡ changed (λ xs. padded (take i ks ++ xs)) (times (w - i) int rest)
+-- places of which i have their values
+pub record Filled (n : ℕ) (start : List ℕ) (i : ℕ) (ps : List ℤ) (rest : List ℕ) : Type 0 where
+  pub many : length ps ≡ n
+  pub same : times n int start ≡ changed (λ xs. take i ps ++ xs) (times (n - i) int rest)
 
-pub filled_none : (w : ℕ) (start : List ℕ) → Filled w start 0 (replicate 4 (pos 0)) start
-unfolding key
-filled_none w start = record { four = refl; zeros = refl; same = ap (λ n. changed padded (times n int start)) (omega arith) }
-
-pub filled_more : (w : ℕ) (start : List ℕ) (i : ℕ) (ks : List ℤ) (rest : List ℕ) (z : ℤ) (more : List ℕ) → i < w → w ≤ 4 → Filled w start i ks rest → Some (z, more) ≡ int rest → Filled w start (i + 1) (set ks i z) more
-filled_more w start i ks rest z more h l f e =
-    let four = f.four in
-    let here : i < length ks = omega arith in
-    let one : w - i ≡ suc (w - (i + 1)) = omega arith in
-    let t = take_more_set ks i z here in
+pub filled_more : (n : ℕ) (start : List ℕ) (i : ℕ) (ps : List ℤ) (rest : List ℕ) (z : ℤ) (more : List ℕ) → i < n → Filled n start i ps rest → Some (z, more) ≡ int rest → Filled n start (i + 1) (set ps i z) more
+filled_more n start i ps rest z more h f e =
+    let many = f.many in
+    let here : i < length ps = omega arith in
+    let one : n - i ≡ suc (n - (i + 1)) = omega arith in
     record {
-      four = length-set ks i z ∙ four;
-      zeros = drop-set-lt (i + 1) ks i z (omega arith) ∙ tail (omega arith);
+      many = length-set ps i z ∙ many;
       same = f.same
-          ∙ ap (λ n. changed (λ xs. padded (take i ks ++ xs)) (times n int rest)) one
-          ∙ times_step (λ xs. padded (take i ks ++ xs)) int (w - (i + 1)) z rest more e
-          ∙ changed_like (λ xs. padded (take i ks ++ (z ∷ xs))) (λ xs. padded (take (i + 1) (set ks i z) ++ xs)) (times (w - (i + 1)) int more)
-          (λ xs. ap padded (sym (append_assoc (take i ks) (z ∷ []) xs) ∙ ap (λ x. x ++ xs) (sym t)));
+          ∙ ap (λ k. changed (λ xs. take i ps ++ xs) (times k int rest)) one
+          ∙ times_step (λ xs. take i ps ++ xs) int (n - (i + 1)) z rest more e
+          ∙ changed_like (λ xs. take i ps ++ (z ∷ xs)) (λ xs. take (i + 1) (set ps i z) ++ xs) (times (n - (i + 1)) int more)
+          (λ xs. sym (append_assoc (take i ps) (z ∷ []) xs) ∙ ap (λ x. x ++ xs) (sym (take_more_set ps i z here)));
     }
-  where
-    tail : i < 4 → drop (i + 1) ks ≡ replicate (4 - (i + 1)) (pos 0)
-    tail k =
-        let four = f.four in
-        let here : i < length ks = omega arith in
-        let one : 4 - i ≡ suc (4 - (i + 1)) = omega arith in
-        let e : get_or ks i (pos 0) ∷ drop (i + 1) ks ≡ pos 0 ∷ replicate (4 - (i + 1)) (pos 0) = sym (drop_more ks i (pos 0) here) ∙ f.zeros ∙ ap (λ n. replicate n (pos 0)) one in
-        cc
 
-pub filled_fails : (w : ℕ) (start : List ℕ) (i : ℕ) (ks : List ℤ) (rest : List ℕ) → i < w → Filled w start i ks rest → None ≡ int rest → None ≡ key w start
-filled_fails w start i ks rest h f e =
-    let one : suc (w - (i + 1)) ≡ w - i = omega arith in
-    times_none (λ xs. padded (take i ks ++ xs)) int (w - (i + 1)) rest e
-    ∙ ap (λ n. changed (λ xs. padded (take i ks ++ xs)) (times n int rest)) one ∙ sym f.same
+-- places past those of a key stay 0
+pub key_places : (w : ℕ) (bs : List ℕ) (ks : List ℤ) (rest : List ℕ) → w ≤ 4 → length ks ≡ w → Some (ks, rest) ≡ times w int bs → Some (ks ++ drop w (replicate 4 (pos 0)), rest) ≡ key w bs
+unfolding key
+key_places w bs ks rest h l e =
+    let zeros : drop w (replicate 4 (pos 0)) ≡ replicate (4 - length ks) (pos 0) = drop-replicate w 4 (pos 0) ∙ ap (λ n. replicate (4 - n) (pos 0)) (sym l) in
+    ap (λ zs. Some (ks ++ zs, rest)) zeros ∙ ap (changed padded) e
 
-pub filled_all : (w : ℕ) (start : List ℕ) (i : ℕ) (ks : List ℤ) (rest : List ℕ) → i ≡ w → w ≤ 4 → Filled w start i ks rest → Some (ks, rest) ≡ key w start
-filled_all w start i ks rest h l f =
-    let four = f.four in
-    let e : length (take i ks) ≡ i = length-take-le i ks (omega arith) in
-    let p : padded (take i ks ++ []) ≡ ks =
-    ap padded (append-nil (take i ks)) ∙ ap (λ n. take i ks ++ replicate (4 - n) (pos 0)) e ∙ ap (λ x. take i ks ++ x) (sym f.zeros) ∙ take-append-drop i ks in
-    let none : w - i ≡ 0 = omega arith in
-    sym (f.same ∙ ap (λ n. changed (λ xs. padded (take i ks ++ xs)) (times n int rest)) none ∙ ap (λ x. Some (x, rest)) p)
+pub no_key : (w : ℕ) (bs : List ℕ) → None ≡ times w int bs → None ≡ key w bs
+unfolding key
+no_key w bs e = ap (changed padded) e
+
+-- a word of 32 bits shows the number that it stands for
+pub as_shown : (z : ℤ) → SFits w32 z → to_z w32 (of_z w32 z) ≡ z
+as_shown z h = to_z-of_z w32 z h
 
 -- a value of n rows
 module _ {V A : Type 0} (m : Meaning V A) (n : ℕ) (bs : List ℕ) where

@@ -34,6 +34,7 @@ pub(crate) fn take_shape<M: Measure>(fields: u8, bytes: &[u8]) -> Option<(Column
 
 // The bytes after so many groups that have all rows together. That a key has four values at most is a premise
 // here and in `take_cell`, and no type: a shape is public, and any mask can stand in it.
+#[tactic(auto, using(crate::proofs::Steps::groups_more, crate::proofs::Steps::groups_no_group, crate::proofs::Steps::groups_no_order, crate::proofs::Steps::groups_end, crate::proofs::Steps::groups_not_all, crate::proofs::Steps::cell_was, crate::proofs::Steps::no_cell))]
 fn take_groups<'a, M: Measure>(
     shape: &ColumnShape<M>,
     all: u32,
@@ -57,6 +58,7 @@ fn take_groups<'a, M: Measure>(
     if rows_left == 0 { Some(rest) } else { None }
 }
 
+#[tactic(auto, using(crate::proofs::Steps::column_no_shape, crate::proofs::Steps::column_no_count, crate::proofs::Steps::column_is))]
 fn take_column<M: Measure>(head: Head, bytes: &[u8]) -> Option<&[u8]>
     ensures { passed result ≡ after (column_reader M.Measure.meaning M.Measure.found head.fields head.rows bytes.now) }
 {
@@ -66,6 +68,7 @@ fn take_column<M: Measure>(head: Head, bytes: &[u8]) -> Option<&[u8]>
 }
 
 // The bytes after the columns of a head.
+#[tactic(auto, using(readers::proofs::Steps::after_more), unfolding(crate::specs::Reading::columns))]
 pub(crate) fn take_columns<M: Measure>(head: Head, bytes: &[u8]) -> Option<&[u8]>
     ensures { passed result ≡ after (columns_reader M.Measure.meaning M.Measure.found head bytes.now) }
 {

@@ -10,7 +10,7 @@ use crate::view::{Columns, View};
 use measures::measure::Measure;
 use text::refusal::Refusal;
 
-// Measures are told apart by their kinds.
+// Measures are told apart by their kinds: they need have no `==`, so that none can be derived.
 fn same_shape<M: Measure>(a: &ColumnShape<M>, b: &ColumnShape<M>) -> bool
     ensures { Decides result (a.now ≡ b.now) }
 {

@@ -1,9 +1,9 @@
 // One group of a column.
-ghost use Rattle.std.specs.Prelude.{◌≡◌, ◌≤◌, IfSome};
+ghost use Rattle.std.specs.Prelude.{◌≡◌, ◌≤◌, length, IfSome};
 ghost use Rattle.cells.specs.Order.{key_order};
 ghost use Rattle.cells.specs.Columns.{cell_of};
-ghost use Rattle.readers.specs.Readers.{changed};
-ghost use Rattle.readers.specs.Seen.{seen};
+ghost use Rattle.readers.specs.Readers.{changed, times};
+ghost use Rattle.readers.specs.Seen.{seen, filled};
 ghost use Rattle.hall_file.specs.Written.{width as width_of};
 ghost use Rattle.hall_file.specs.Rules.{is_after as comes_after};
 ghost use Rattle.hall_file.specs.Reading.{int, key as key_reader, fits as fit, rows as rows_reader, value as value_reader, group as group_reader};
@@ -16,6 +16,7 @@ use measures::values::is_row_value;
 use readers::take_u32;
 use std::cmp::Ordering;
 
+#[tactic(auto, using(crate::proofs::Steps::as_shown, readers::proofs::Steps::kept_yes, readers::proofs::Steps::kept_no), unfolding(crate::specs::Reading::int))]
 fn take_int(bytes: &[u8]) -> Option<(i32, &[u8])>
     ensures { seen result ≡ int bytes.now }
 {
@@ -28,19 +29,26 @@ fn take_int(bytes: &[u8]) -> Option<(i32, &[u8])>
     }
 }
 
+// Fills places with values from the front of bytes; the bytes after them.
+fn fill<'a>(places: &mut [i32], bytes: &'a [u8]) -> Option<&'a [u8]>
+    ensures { filled places.new result ≡ times (length places.old) int bytes.now }
+{
+    let mut rest = bytes;
+    for place in places.iter_mut() {
+        let (value, more) = take_int(rest)?;
+        *place = value;
+        rest = more;
+    }
+    Some(rest)
+}
+
 // A key of so many fields; its other places are 0.
 fn take_key(width: usize, bytes: &[u8]) -> Option<([i32; 4], &[u8])>
     requires { width ≤ 4 }
     ensures { seen result ≡ key_reader width bytes.now }
 {
     let mut key = [0; 4];
-    let mut rest = bytes;
-    // by index: a loop over `iter_mut().take(width)` tells its proof nothing of the values that it wrote
-    for i in 0..width {
-        let (value, more) = take_int(rest)?;
-        key[i] = value;
-        rest = more;
-    }
+    let rest = fill(&mut key[..width], bytes)?;
     Some((key, rest))
 }
 
@@ -68,6 +76,7 @@ fn fits(left: u32, rows: u32) -> bool
     (1..=left).contains(&rows)
 }
 
+#[tactic(auto, using(readers::proofs::Steps::kept_yes, readers::proofs::Steps::kept_no), unfolding(crate::specs::Reading::rows))]
 fn take_rows(left: u32, bytes: &[u8]) -> Option<(u32, &[u8])>
     ensures read { seen result ≡ rows_reader left bytes.now }
     ensures few { IfSome result (λ q. q.0 ≤ left) }
@@ -97,6 +106,7 @@ fn take_value<'a, M: Measure>(
 }
 
 // The group at the front of bytes, as a cell of the column with this number, and the bytes after it.
+#[tactic(auto, using(crate::proofs::Steps::group_no_key, crate::proofs::Steps::group_no_rows, crate::proofs::Steps::group_no_value, crate::proofs::Steps::group_is))]
 pub(crate) fn take_cell<'a, M: Measure>(
     column: u8,
     shape: &ColumnShape<M>,

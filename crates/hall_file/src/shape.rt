@@ -19,7 +19,7 @@ pub struct ColumnShape<M> {
     pub mask: u8,
 }
 
-// The measured byte of a file.
+// The measured byte of a file. This and the next are no `From` and `TryFrom`: both types are the library's.
 pub fn byte_of_measured(measured: Option<u8>) -> u8
     ensures { result ≡ measured_byte measured }
 {
@@ -38,6 +38,7 @@ pub fn measured_of_byte(takes: usize, fields: u8, byte: u8) -> Option<Option<u8>
 }
 
 // Whether a mask has no bit at the number of row fields or above; a byte has none past the eighth.
+#[tactic(auto, using(crate::proofs::Masks::below_shifted))]
 fn is_below(fields: u8, mask: u8) -> bool
     ensures { result ≡ nat_lt mask (2 ^ fields) }
 {

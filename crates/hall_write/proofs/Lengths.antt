@@ -1,8 +1,8 @@
 -- Cells and columns, one at a time.
-use Rattle.std.proofs.Common.{◌≡◌, ℕ, zero, suc, ◌+◌, ◌-◌, ◌<◌, ◌≤◌, min, Bool, true, false, cond, eqb, ◌⊎◌, List, [], ◌∷◌, ◌++◌, length, get_or, drop, ℤ, pos, sym, refl, ap, ◌∙◌, inl, inr, arith}
+use Rattle.std.proofs.Common.{◌≡◌, ℕ, suc, ◌+◌, ◌<◌, ◌≤◌, min, Bool, true, false, cond, eqb, List, [], ◌∷◌, ◌++◌, length, get_or, take, drop, ℤ, pos, sym, refl, ap, ◌∙◌, arith}
 use Rattle.std.specs.List.{flat_map}
 use Rattle.std.specs.List.{count_by}
-use Rattle.std.proofs.lemmas.List.{drop_more, drop_all, take_all, length-append}
+use Rattle.std.proofs.lemmas.List.{drop_more, drop_all, take_min, length-append}
 use Rattle.std.proofs.lemmas.List.Recursion.{is_count_by}
 use Rattle.measures.specs.Meaning.{Meaning}
 use Rattle.cells.specs.declared.cell.Cell.{Cell}
@@ -32,10 +32,6 @@ module _ {M V A : Type 0} (meaning : M → Meaning V A) where
   cells_at k s cs i c h e =
       ap (λ l. groups_bytes meaning s (column k l)) (drop_more cs i c h) ∙ cell_first k s (get_or cs i c) (drop (i + 1) cs)
       ∙ ap (λ l. l ++ groups_bytes meaning s (column k (drop (i + 1) cs))) (sym e)
-
-  -- how many these are
-  pub cells_long : (k : ℕ) (s : ColumnShape M) (cs : List (Cell V)) (i : ℕ) (c : Cell V) → i < length cs → cell_bytes meaning k s c ≡ cell_bytes meaning k s (get_or cs i c) → length (groups_bytes meaning s (column k (drop i cs))) ≡ length (cell_bytes meaning k s c) + length (groups_bytes meaning s (column k (drop (i + 1) cs)))
-  cells_long k s cs i c h e = ap length (cells_at k s cs i c h e) ∙ length-append (cell_bytes meaning k s c) (groups_bytes meaning s (column k (drop (i + 1) cs)))
 
   -- the column of number k
   abbrev pub the_column : ℕ → ColumnShape M → List (Cell V) → Column M V
@@ -76,20 +72,6 @@ module _ {M V A : Type 0} (meaning : M → Meaning V A) where
 pub values_at : (ks : List ℤ) (i : ℕ) → i < length ks → flat_map int_bytes (drop i ks) ≡ int_bytes (get_or ks i (pos 0)) ++ flat_map int_bytes (drop (i + 1) ks)
 values_at ks i h = ap (flat_map int_bytes) (drop_more ks i (pos 0) h)
 
--- past the fourth place there is nothing to write
-pub key_of_four : (w : ℕ) (ks : List ℤ) → length ks ≡ 4 → key_bytes (min w 4) ks ≡ key_bytes w ks
-key_of_four w ks four = go (le_or w)
-  where
-    le_or : (w : ℕ) → (w ≤ 4) ⊎ (4 < w)
-    le_or zero = inl (omega arith)
-    le_or (suc zero) = inl (omega arith)
-    le_or (suc (suc zero)) = inl (omega arith)
-    le_or (suc (suc (suc zero))) = inl (omega arith)
-    le_or (suc (suc (suc (suc zero)))) = inl (omega arith)
-    le_or (suc (suc (suc (suc (suc w))))) = inr (omega arith)
-
-    go : (w ≤ 4) ⊎ (4 < w) → key_bytes (min w 4) ks ≡ key_bytes w ks
-    go (inl h) = let e : min w 4 ≡ w = omega arith in ap (λ n. key_bytes n ks) e
-    go (inr h) =
-        let e : min w 4 ≡ 4 = omega arith in
-        ap (λ n. key_bytes n ks) e ∙ ap (flat_map int_bytes) (take_all 4 ks (omega arith) ∙ sym (take_all w ks (omega arith)))
+-- the values of a key in their places are those that are written
+pub key_values : (k w : ℕ) (ks : List ℤ) → length ks ≡ 4 → k ≡ min w 4 → flat_map int_bytes (take k ks) ≡ key_bytes w ks
+key_values k w ks four e = ap (λ n. flat_map int_bytes (take n ks)) (e ∙ ap (min w) (sym four)) ∙ ap (flat_map int_bytes) (take_min w ks)

@@ -1,7 +1,7 @@
 -- Writing over a buffer, one part after another.
 use Rattle.std.proofs.Common.{◌≡◌, ℕ, ◌+◌, ◌-◌, ◌/◌, ◌%◌, ◌≤◌, List, [], ◌∷◌, ◌++◌, length, take, drop, sym, refl, ap, ◌∙◌, subst, arith}
 use borrow.Rule.Slice.PartMut.{put_mid}
-use Rattle.std.proofs.lemmas.List.{append_assoc, append-nil, length-append, length-drop, length-take-le, take_at, drop_at, drop-drop, take-append-drop, take_all}
+use Rattle.std.proofs.lemmas.List.{append_assoc, length-append, length-drop, length-take-le, take_at, drop_at, drop-drop, take-append-drop, take_all}
 use Rattle.std.proofs.lemmas.Slice.{put_mid-paste}
 use Rattle.measures.specs.Bytes.{bytes_of}
 use Rattle.hall_write.specs.declared.put.Out.{Out}
@@ -116,9 +116,6 @@ doing_more {whole} {rest} {start} {out} d part rest' e room next p =
       puts = puts_more d.puts p (room_first (d.done ++ part) rest' start (subst (λ l. HasRoom l start) (sym adds) room));
       adds = adds;
     }
-
-pub doing_end : {whole rest : List ℕ} {start out : Out} → Doing whole rest start out → rest ≡ [] → Puts whole start out
-doing_end {whole} {rest} {start} {out} d e = puts_as (sym (append-nil d.done) ∙ ap (λ l. d.done ++ l) (sym e) ∙ d.adds) d.puts
 
 -- four bytes as the code gives them
 pub le_four : (n : ℕ) → (n % 256) ∷ (n / 256 % 256) ∷ (n / 65536 % 256) ∷ (n / 16777216 % 256) ∷ [] ≡ bytes_of 4 n

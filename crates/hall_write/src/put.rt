@@ -1,12 +1,12 @@
 // The parts of a file, each put after the part before it.
-ghost use Rattle.std.specs.Prelude.{◌≡◌, ◌++◌, length, count_ones};
+ghost use Rattle.std.specs.Prelude.{◌≡◌, ◌++◌, count_ones};
 ghost use Rattle.measures.specs.Bytes.{bytes_of};
 ghost use Rattle.cells.specs.Columns.{group, column};
 ghost use Rattle.hall_file.specs.Written.{key_bytes, head_bytes as head_of, shape_bytes, group_bytes, groups_bytes, column_bytes};
 ghost use Rattle.hall_write.specs.Over.{HasRoom, Puts};
 ghost use Rattle.hall_write.specs.Laid.{cell_bytes};
 
-use crate::length::{group_count, is_of};
+use crate::length::{FileColumn, group_count, is_of};
 use cells::cell::Cell;
 use hall_file::head::VERSION;
 use hall_file::shape::{ColumnShape, byte_of_measured, key_width};
@@ -19,6 +19,8 @@ pub(crate) struct Out<'a> {
     pub(crate) end: usize,
 }
 
+// The bytes, put where there is room for them. The `put` of crate `text` may find no room, and answers so.
+#[tactic(auto, using(crate::proofs::Overs::over_put))]
 pub(crate) fn put(out: &mut Out, bytes: &[u8])
     requires { HasRoom bytes.now out.old }
     ensures { Puts bytes.now out.old out.new }
@@ -50,31 +52,6 @@ fn put_group<M: Measure>(out: &mut Out, shape: &ColumnShape<M>, cell: &Cell<M::V
     put(out, &shape.measure.write(cell.value));
 }
 
-// The group of a cell, if it is of the column with this number.
-fn put_cell<M: Measure>(out: &mut Out, number: usize, shape: &ColumnShape<M>, cell: &Cell<M::Value>)
-    requires { HasRoom (cell_bytes M.Measure.meaning number shape.now cell.now) out.old }
-    ensures { Puts (cell_bytes M.Measure.meaning number shape.now cell.now) out.old out.new }
-{
-    if is_of(cell, number) {
-        put_group(out, shape, cell);
-    }
-}
-
-// Number, shape and cells go down one chain of calls; a struct of them would be made and taken apart once.
-fn put_groups<M: Measure>(
-    out: &mut Out,
-    number: usize,
-    shape: &ColumnShape<M>,
-    cells: &[Cell<M::Value>],
-)
-    requires { HasRoom (groups_bytes M.Measure.meaning shape.now (column number cells.now)) out.old }
-    ensures { Puts (groups_bytes M.Measure.meaning shape.now (column number cells.now)) out.old out.new }
-{
-    for cell in cells {
-        put_cell(out, number, shape, cell);
-    }
-}
-
 // The bytes of a column before its groups; the number of groups is in the last two.
 fn column_head<M: Measure>(shape: &ColumnShape<M>, count: usize) -> [u8; 5]
     ensures { result ≡ shape_bytes M.Measure.meaning shape.now ++ bytes_of 2 count }
@@ -84,20 +61,43 @@ fn column_head<M: Measure>(shape: &ColumnShape<M>, count: usize) -> [u8; 5]
     [shape.measure.kind(), measured, shape.mask, low, high]
 }
 
-pub(crate) fn put_column<M: Measure>(
-    out: &mut Out,
-    number: usize,
-    shape: &ColumnShape<M>,
-    cells: &[Cell<M::Value>],
-)
-    requires { HasRoom (column_bytes M.Measure.meaning (record { shape = shape.now; groups = column number cells.now })) out.old }
-    ensures { Puts (column_bytes M.Measure.meaning (record { shape = shape.now; groups = column number cells.now })) out.old out.new }
-{
-    put(out, &column_head(shape, group_count(cells, number)));
-    put_groups(out, number, shape, cells);
+impl<M: Measure> FileColumn<'_, M> {
+    // The group of a cell, if it is of the column.
+    #[tactic(auto, using(crate::proofs::Overs::puts_none))]
+    fn put_cell(&self, out: &mut Out, cell: &Cell<M::Value>)
+        requires { HasRoom (cell_bytes M.Measure.meaning self.now.number self.now.shape.now cell.now) out.old }
+        ensures { Puts (cell_bytes M.Measure.meaning self.now.number self.now.shape.now cell.now) out.old out.new }
+    {
+        if is_of(cell, self.number) {
+            put_group(out, self.shape, cell);
+        }
+    }
+
+    // The groups of the column.
+    fn put_groups(&self, out: &mut Out, cells: &[Cell<M::Value>])
+        requires { HasRoom (groups_bytes M.Measure.meaning self.now.shape.now (column self.now.number cells.now)) out.old }
+        ensures { Puts (groups_bytes M.Measure.meaning self.now.shape.now (column self.now.number cells.now)) out.old out.new }
+    {
+        for cell in cells {
+            self.put_cell(out, cell);
+        }
+    }
+
+    // The whole column.
+    pub(crate) fn put_column(&self, out: &mut Out, cells: &[Cell<M::Value>])
+        requires { HasRoom (column_bytes M.Measure.meaning (record { shape = self.now.shape.now; groups = column self.now.number cells.now })) out.old }
+        ensures { Puts (column_bytes M.Measure.meaning (record { shape = self.now.shape.now; groups = column self.now.number cells.now })) out.old out.new }
+    {
+        put(
+            out,
+            &column_head(self.shape, group_count(cells, self.number)),
+        );
+        self.put_groups(out, cells);
+    }
 }
 
 // The bytes of the head; one byte has the number of columns.
+#[tactic(auto, using(crate::proofs::Overs::le_four))]
 pub(crate) fn head_bytes(fields: u8, columns: usize, rows: u32) -> [u8; 11]
     ensures { result ≡ head_of fields columns rows }
 {

@@ -3,8 +3,8 @@ ghost use Rattle.hall_file.specs.Written.{columns_bytes, file_bytes};
 ghost use Rattle.hall_write.specs.Over.{HasRoom, Puts};
 ghost use Rattle.hall_write.specs.Laid.{laid, content_of, WrittenInto};
 
-use crate::length::length_within;
-use crate::put::{Out, head_bytes, put, put_column};
+use crate::length::{FileColumn, length_within};
+use crate::put::{Out, head_bytes, put};
 use cells::cell::Cell;
 use hall_file::shape::ColumnShape;
 use measures::measure::Measure;
@@ -15,12 +15,12 @@ fn put_columns<M: Measure>(out: &mut Out, shapes: &[ColumnShape<M>], cells: &[Ce
     ensures { Puts (columns_bytes M.Measure.meaning (laid 0 shapes.now cells.now)) out.old out.new }
 {
     for (number, shape) in shapes.iter().enumerate() {
-        put_column(out, number, shape, cells);
+        FileColumn { number, shape }.put_column(out, cells);
     }
 }
 
 // The file of these cells, written to the front of the buffer: answers its length; 14 where the buffer is
-// too short.
+// too short. What is written stands in four arguments, since a struct of them would be made for this call alone.
 pub fn write<M: Measure>(
     fields: u8,
     rows: u32,

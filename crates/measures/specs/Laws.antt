@@ -168,6 +168,7 @@ extreme_eight : (a : Option ℤ) → EightBytes (extreme_bytes a)
 extreme_eight None = bytes_of_eight 0
 extreme_eight (Some a) = bytes_of_eight (of_z w64 a)
 
+-- an extreme of any choice is written in eight bytes
 pub extreme_formed : (kind : ℕ) (pick : ℤ → ℤ → ℤ) → kind < 256 → Formed (extreme kind pick)
 extreme_formed kind pick h = record { kind_is_a_byte = h; written_in_eight_bytes = extreme_eight }
 

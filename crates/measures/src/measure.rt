@@ -13,7 +13,8 @@ pub trait Measure: Copy {
     // the measure of a kind, if there is one
     ghost found: { ℕ → Option Self };
 
-    // The measure of a kind, as the kinds in a file are judged.
+    // The measure of a kind, as the kinds in a file are judged. A kind is a byte and no enum, since a file has it as a
+    // byte and any type may be a measure.
     fn of_kind(kind: u8) -> Option<Self>
         ensures { result ≡ found kind };
 

@@ -70,7 +70,3 @@ where_leads v w n (Err f) d h p q g = asks_condition d h (here v) (to_come v) �
 pub where_shorter : (v w : Words) (n : FieldNames) (x : Result Read Refusal) → ResultOf x v w (looks n) → IfOk x (λ _. length (to_come w) < length (to_come v))
 where_shorter v w n (Ok r) g = condition_left (looks n) (here v) (to_come v) g.0 g.1 (here w) (to_come w) g.4
 where_shorter v w n (Err f) g = tt
-
-pub made_weaker : {X : Type 0} (x : Result X Refusal) (P Q : X → Type 0) → ((y : X) → P y → Q y) → IfOk x P → IfOk x Q
-made_weaker (Ok y) P Q f h = f y h
-made_weaker (Err e) P Q f h = tt

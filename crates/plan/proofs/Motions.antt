@@ -1,5 +1,5 @@
 -- How the words of a plan still to come go on, one word at a time. Assumes nothing.
-use Rattle.std.proofs.Common.{◌≡◌, ℕ, ◌<◌, ◌≤◌, Bool, true, false, ◌&&◌, ltb, List, [], ◌∷◌, ◌++◌, length, is_some, Err, Result, sym, refl, ap, ◌∙◌, subst, arith}
+use Rattle.std.proofs.Common.{◌≡◌, ℕ, Bool, true, false, ◌&&◌, ltb, List, [], ◌∷◌, length, is_some, Err, Result, sym, refl, ap, ◌∙◌, subst}
 use Rattle.std.proofs.lemmas.Bool.{true≢false, cond-true, cond-false}
 use Rattle.text.specs.declared.refusal.Refusal.{Refusal}
 use Rattle.words.specs.Lexemes.{Lexeme, cut}
@@ -8,7 +8,7 @@ use Rattle.words.specs.Cutting.{next, later, none_left, to_come, here}
 use Rattle.words.specs.Tables.{place}
 use Rattle.words.specs.declared.cursor.Words.{Words}
 use Rattle.conditions.specs.Machine.{Fault, form, taken, limit, refusal}
-use Rattle.plan.specs.Lines.{word, declared, telling, wrong_of, ends_line}
+use Rattle.plan.specs.Lines.{declared, telling, wrong_of, ends_line}
 use Rattle.plan.specs.declared.words_of_plan.NoName.{NoName}
 use Rattle.plan.specs.declared.words_of_plan.NoName.TheVariants.{Held, OtherForm}
 use Rattle.plan.specs.Drafts.{Draft}
@@ -63,15 +63,6 @@ fails w o st x y f p q h = subst (Leads w o st) (sym (p ∙ ap Err q)) h
 pub leads_from : {X : Type 0} (w : Words) (o o' : Result Draft Refusal) (st : X → Stage) (x : Result X Refusal) → o ≡ o' → Leads w o' st x → Leads w o st x
 leads_from w o o' st x e h = subst (λ p. Leads w p st x) (sym e) h
 
-pub later_shorter : (xs : List Lexeme) → length (later xs) ≤ length xs
-later_shorter [] = omega arith
-later_shorter (x ∷ xs) = omega arith
-
--- a word that is a name is there
-pub name_falls : (upper : Bool) (xs : List Lexeme) (w : List ℕ) → word w ≡ declared upper (next xs) → length (later xs) < length xs
-name_falls upper [] w h = cc
-name_falls upper (x ∷ xs) w h = omega arith
-
 -- a word that is no name is refused for what is wrong with it
 pub no_name_halts : (st : List ℕ → Stage) (ns : List (List ℕ)) (most : ℕ) (e : NoName) → admit st ns most (telling (Err e)) ≡ halt (wrong_of e)
 no_name_halts st ns most Held = refl
@@ -87,10 +78,6 @@ module _ (ns : List (List ℕ)) (w : List ℕ) (most : ℕ) (st : Stage) where
 
   pub enter_new : is_some (place ns w 0) ≡ false → ltb (length ns) most ≡ true → enter ns w most st ≡ on st
   enter_new h l = cond-false (is_some (place ns w 0)) _ _ h ∙ cond-true (ltb (length ns) most) _ _ l
-
-pub some_more : (ns : List (List ℕ)) (w : List ℕ) → some (ns ++ (w ∷ [])) ≡ true
-some_more [] w = refl
-some_more (n ∷ ns) w = refl
 
 -- a line of names: it ends after a name, and goes on else
 module _ (more done : List (List ℕ) → Stage) (upper : Bool) (most : ℕ) (l : LineOfNames more done upper most) (v : Words) (ns : List (List ℕ)) where

@@ -1,4 +1,5 @@
-// Reads the lines of a plan.
+// Reads the lines of a plan. What the clauses `shorter` and `on` say relates the words before and after a call, so it is no
+// fact of one value that a type could hold.
 ghost use Rattle.std.specs.Prelude.{◌≡◌, ◌<◌, ◌≤◌, true, length, OnOk, nat_lt};
 ghost use Rattle.words.specs.Cutting.{to_come};
 ghost use Rattle.words.specs.Tables.{texts};
@@ -16,6 +17,7 @@ use conditions::wrong::Wrong;
 use text::refusal::Refusal;
 use words::cursor::Words;
 use words::names::Table;
+use words::tables::Full;
 
 // The names of one kind: whether they are in upper case, and how many there are at most.
 #[derive(Clone, Copy)]
@@ -56,7 +58,7 @@ impl NameRule {
     {
         let name = match declared_of(words.peek(), self.upper) {
             Ok(name) => name,
-            Err(no_name) => return Err(no_name.wrong().at(words)),
+            Err(no_name) => return Err(Wrong::from(no_name).at(words)),
         };
         if names.find(name).is_some() {
             return Err(Wrong::Taken.at(words));
@@ -75,8 +77,10 @@ impl NameRule {
         ensures some { OnOk result (some (texts table.new) ≡ true) }
     {
         let name = self.read_new(words, table)?;
-        let _ = table.add(name);
-        Ok(())
+        match table.add(name) {
+            Ok(()) => Ok(()),
+            Err(Full) => Err(Wrong::Limit.at(words)),
+        }
     }
 
     // The names of a line, one at least, and its end.

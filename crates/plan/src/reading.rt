@@ -23,6 +23,7 @@ pub enum Awaits {
 pub fn read_plan(text: &[u8]) -> Result<Plan<'_, AnyMeasure>, Refusal>
     ensures { meant result ≡ plan_of text.now }
 {
+    // line 0, word 0 is the text as a whole: so it is published
     if text.len() > MOST_BYTES {
         return Err(Refusal::PlanLimit { line: 0, word: 0 });
     }

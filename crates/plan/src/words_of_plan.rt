@@ -1,5 +1,5 @@
 // What the words of a plan are, outside conditions.
-ghost use Rattle.std.specs.Prelude.{◌≡◌, true};
+ghost use Rattle.std.specs.Prelude.{◌≡◌};
 ghost use Rattle.words.specs.Lexemes.{seen};
 ghost use Rattle.plan.specs.Lines.{leading_keyword, leading, kind_keyword, kind_of, following_keyword, following, declared, telling, wrong_of, takes_field, ends_line};
 
@@ -29,25 +29,15 @@ pub enum NoName {
     OtherForm,
 }
 
-impl NoName {
-    // What is wrong with such a word where a name is to be declared.
-    pub(crate) fn wrong(self) -> Wrong
-        ensures { result ≡ wrong_of self }
-    {
-        match self {
+// What is wrong with such a word where a name is to be declared.
+impl From<NoName> for Wrong {
+    ghost from_gives = { λ no_name wrong. wrong ≡ wrong_of no_name };
+
+    fn from(no_name: NoName) -> Wrong {
+        match no_name {
             NoName::Held => Wrong::Taken,
             NoName::OtherForm => Wrong::Form,
         }
-    }
-}
-
-fn leading_keyword(keyword: Keyword) -> Option<Leading>
-    ensures { result ≡ leading_keyword keyword }
-{
-    match keyword {
-        Keyword::Rows => Some(Leading::Rows),
-        Keyword::Base => Some(Leading::Base),
-        _ => None,
     }
 }
 
@@ -55,7 +45,14 @@ pub(crate) fn leading_of(token: Token) -> Option<Leading>
     ensures { result ≡ leading (seen token.entry) }
 {
     match token {
-        Token::Reserved { keyword, .. } => leading_keyword(keyword),
+        Token::Reserved {
+            keyword: Keyword::Rows,
+            ..
+        } => Some(Leading::Rows),
+        Token::Reserved {
+            keyword: Keyword::Base,
+            ..
+        } => Some(Leading::Base),
         _ => None,
     }
 }
@@ -77,10 +74,10 @@ fn kind_keyword(keyword: Keyword) -> Option<AnyMeasure>
 pub(crate) fn kind_of(token: Token) -> Option<AnyMeasure>
     ensures { result ≡ kind_of (seen token.entry) }
 {
-    match token {
-        Token::Reserved { keyword, .. } => kind_keyword(keyword),
-        _ => None,
-    }
+    let Token::Reserved { keyword, .. } = token else {
+        return None;
+    };
+    kind_keyword(keyword)
 }
 
 // Whether a measured field follows the measure's word.
@@ -90,20 +87,14 @@ pub(crate) fn takes_field(kind: AnyMeasure) -> bool
     kind.fields() > 0
 }
 
-fn following_keyword(keyword: Keyword) -> Option<Following>
-    ensures { result ≡ following_keyword keyword }
-{
-    match keyword {
-        Keyword::Where => Some(Following::Where),
-        _ => None,
-    }
-}
-
 pub(crate) fn following_of(token: Token) -> Option<Following>
     ensures { result ≡ following (seen token.entry) }
 {
     match token {
-        Token::Reserved { keyword, .. } => following_keyword(keyword),
+        Token::Reserved {
+            keyword: Keyword::Where,
+            ..
+        } => Some(Following::Where),
         Token::LineEnd { .. } => Some(Following::End),
         _ => None,
     }

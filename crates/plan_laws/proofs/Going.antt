@@ -1,5 +1,5 @@
 -- Words none of which is wrong begin some plan. Assumes nothing.
-use Rattle.std.proofs.Common.{◌≡◌, ℕ, ◌+◌, Bool, true, false, cond, ◌&&◌, ltb, List, [], ◌∷◌, ◌++◌, length, pos, is_some, Some, None, Ok, Err, Option, Result, sym, refl, ap, ◌∙◌, arith}
+use Rattle.std.proofs.Common.{◌≡◌, ℕ, ◌+◌, Bool, true, false, cond, ◌&&◌, ltb, List, [], ◌∷◌, ◌++◌, pos, Some, None, Ok, Err, Option, Result, sym, refl, ap, ◌∙◌}
 use Rattle.std.proofs.lemmas.Bool.{true≢false, cond-true, lt-ltb, leb-false, eq-eqb}
 use Rattle.text.specs.declared.refusal.Refusal.{Refusal}
 use Rattle.words.specs.Lexemes.{Lexeme, name, reserved, number, sign, shift, bracket, feed, same}
@@ -13,17 +13,13 @@ use Rattle.conditions.specs.Machine as conditions
 use Rattle.conditions.specs.declared.condition.Shift.TheVariants.{Plus, Minus}
 use Rattle.conditions.specs.declared.condition.Operand.{Operand}
 use Rattle.conditions.specs.declared.condition.Operand.TheVariants.{Number}
-use Rattle.plan.specs.Lines.{leading, kind_of, takes_field, following, Naming, word, held, no_name, declared, ends_line}
 use Rattle.plan.specs.Drafts.{Head, Entry, Draft, names_of, column_names, with_column, no_fields}
 use Rattle.plan.specs.Machine.{Stage, Motion, on, halt, step, start, rows, second, bases, line, measured, headed, asks, enter, some, naming, naming_line, first_line, second_line, column_name, measure, measured_at, measured_word, after_head, asking, whole, finish, run}
 use Rattle.plan.specs.Machine as stages
 use Rattle.any_measure.specs.declared.any.AnyMeasure.{AnyMeasure}
 use Rattle.any_measure.specs.declared.any.AnyMeasure.TheVariants.{Count}
-use Rattle.plan.specs.declared.words_of_plan.Leading.{Leading}
-use Rattle.plan.specs.declared.words_of_plan.Leading.TheVariants as leads
-use Rattle.plan.specs.declared.words_of_plan.Following.{Following}
-use Rattle.plan.specs.declared.words_of_plan.Following.TheVariants as follow
 use Rattle.plan.proofs.Asking.{after_condition, asks_run}
+use Rattle.plan_laws.proofs.Stepping.{Moved, Keeps, step_kept}
 use Rattle.plan_laws.specs.Theorems.{reached, no_more, exhausted, GoodWordsGoOn}
 
 -- the condition is accepted after some words more
@@ -156,83 +152,28 @@ Live (measured d n k) = some d.rows ≡ true
 Live (headed d h) = some d.rows ≡ true
 Live (asks d h σ st) = some d.rows ≡ true
 
-abbrev Lively : Motion → Type 0
-Lively (on st) = Live st
-Lively (halt f) = Unit {0}
+asking_live : (d : Draft) (h : Head) (m : conditions.Move) → some d.rows ≡ true → Moved Live (asking d h m)
+asking_live d h (conditions.go s τ) l = l
+asking_live d h (conditions.stop f) l = tt
+asking_live d h (conditions.done t τ) l = l
 
-enter_live : (ns : List (List ℕ)) (w : List ℕ) (most : ℕ) (st : Stage) → Live st → Lively (enter ns w most st)
-enter_live ns w most st k = by_tests (is_some (place ns w 0)) (ltb (length ns) most)
-  where
-    by_tests : (a b : Bool) → Lively (cond a (halt conditions.taken) (cond b (on st) (halt conditions.limit)))
-    by_tests true b = tt
-    by_tests false true = k
-    by_tests false false = tt
-
-naming_live : (more done : List (List ℕ) → Stage) (upper : Bool) (most : ℕ) (ns : List (List ℕ)) (x : Lexeme) → (some ns ≡ true → Live (done ns)) → ((ms : List (List ℕ)) → Live (more ms)) → Lively (naming_line more done upper most ns x)
-naming_live more done upper most ns x k m = by_end (ends_line x) ns k
-  where
-    by_name : (ms : List (List ℕ)) (n : Naming) → Lively (naming more ms most n)
-    by_name ms (word w) = enter_live ms w most (more (ms ++ (w ∷ []))) (m (ms ++ (w ∷ [])))
-    by_name ms held = tt
-    by_name ms no_name = tt
-
-    by_end : (b : Bool) (ms : List (List ℕ)) → (some ms ≡ true → Live (done ms)) → Lively (cond (b && some ms) (on (done ms)) (naming more ms most (declared upper x)))
-    by_end true [] k = by_name [] (declared upper x)
-    by_end true (n ∷ ms) k = k refl
-    by_end false ms k = by_name ms (declared upper x)
-
-step_live : (st : Stage) (x : Lexeme) → Live st → Lively (step st x)
-step_live start x l = by_first (leading x)
-  where
-    by_first : (k : Option Leading) → Lively (first_line k)
-    by_first (Some leads.Rows) = tt
-    by_first (Some leads.Base) = tt
-    by_first None = tt
-step_live (rows ns) x l = naming_live rows second false 8 ns x (λ h. h) (λ ms. tt)
-step_live (second rs) x l = by_second (leading x)
-  where
-    by_second : (k : Option Leading) → Lively (second_line rs k)
-    by_second (Some leads.Rows) = tt
-    by_second (Some leads.Base) = l
-    by_second None = tt
-step_live (bases rs ns) x l = naming_live (bases rs) (λ ms. line (record { rows = rs; base = ms; columns = [] })) true 4 ns x (λ h. l) (λ ms. l)
-step_live (line d) x l = by_name (declared false x)
-  where
-    by_name : (n : Naming) → Lively (column_name d n)
-    by_name (word w) = enter_live (column_names d.columns) w 8 (stages.named d w) l
-    by_name held = tt
-    by_name no_name = tt
-step_live (stages.named d n) x l = by_kind (kind_of x)
-  where
-    by_field : (k : AnyMeasure) (b : Bool) → Live (cond b (measured d n k) (headed d (record { name = n; measure = k; field = None })))
-    by_field k true = l
-    by_field k false = l
-
-    by_kind : (o : Option AnyMeasure) → Lively (measure d n o)
-    by_kind None = tt
-    by_kind (Some k) = by_field k (takes_field k)
-step_live (measured d n k) x l = by_name (declared false x)
-  where
-    by_place : (o : Option ℕ) → Lively (measured_at d n k o)
-    by_place None = tt
-    by_place (Some i) = l
-
-    by_name : (m : Naming) → Lively (measured_word d n k m)
-    by_name (word w) = by_place (place d.rows w 0)
-    by_name held = tt
-    by_name no_name = tt
-step_live (headed d h) x l = by_following (following x)
-  where
-    by_following : (f : Option Following) → Lively (after_head d h f)
-    by_following (Some follow.Where) = l
-    by_following (Some follow.End) = l
-    by_following None = tt
-step_live (asks d h σ st) x l = by_move (conditions.step (names_of d) σ st x)
-  where
-    by_move : (m : conditions.Move) → Lively (asking d h m)
-    by_move (conditions.go s τ) = l
-    by_move (conditions.stop f) = tt
-    by_move (conditions.done t τ) = l
+-- every word keeps them
+keeps : Keeps Live
+keeps = record {
+  first = tt;
+  row_name = λ ns w l m. tt;
+  rows_end = λ ns l m. m;
+  base_line = λ rs l. l;
+  base_name = λ rs ns w l m. l;
+  base_end = λ rs ns l m. l;
+  title = λ d w l m. l;
+  measures = λ d n m l. l;
+  counts = λ d n m l. l;
+  measured_field = λ d n m i l. l;
+  asked = λ d h l. l;
+  bare = λ d h l. l;
+  asks_on = λ d h σ st x l. asking_live d h (conditions.step (names_of d) σ st x) l;
+}
 
 -- every stage but an exhausted one goes on to a whole plan
 goes_on : (st : Stage) → Live st → exhausted st ≡ false → Ends st
@@ -252,9 +193,9 @@ joined_run st at [] st' l r h =
     let e : st ≡ st' = cc in
     let c = goes_on st l (ap exhausted e ∙ h) in
     (c.words, ((c.ends at).0, (c.ends at).1))
-joined_run st at (x ∷ xs) st' l r h = by_step (λ s k q. joined_run s (past x at) xs st' k q h) (step st x) (step_live st x l) r
+joined_run st at (x ∷ xs) st' l r h = by_step (λ s k q. joined_run s (past x at) xs st' k q h) (step st x) (step_kept Live keeps st x l) r
   where
-    by_step : ((s : Stage) → Live s → reached s xs ≡ Some st' → (rest : List Lexeme) × ((d : Draft) × (run s (past x at) (xs ++ rest) ≡ Ok d))) → (m : Motion) → Lively m → ◌≡◌ {A = Option Stage} (elim m [ on s ↦ reached s xs | halt f ↦ None ]) (Some st') → (rest : List Lexeme) × ((d : Draft) × (◌≡◌ {A = Result Draft Refusal} (elim m [ on s ↦ run s (past x at) (xs ++ rest) | halt f ↦ Err (refusal f at) ]) (Ok d)))
+    by_step : ((s : Stage) → Live s → reached s xs ≡ Some st' → (rest : List Lexeme) × ((d : Draft) × (run s (past x at) (xs ++ rest) ≡ Ok d))) → (m : Motion) → Moved Live m → ◌≡◌ {A = Option Stage} (elim m [ on s ↦ reached s xs | halt f ↦ None ]) (Some st') → (rest : List Lexeme) × ((d : Draft) × (◌≡◌ {A = Result Draft Refusal} (elim m [ on s ↦ run s (past x at) (xs ++ rest) | halt f ↦ Err (refusal f at) ]) (Ok d)))
     by_step ih (on s) k q = ih s k q
     by_step ih (halt f) k q = cc
 

@@ -1,3 +1,4 @@
+pub mod Stepping
 pub mod Prefixes
 pub mod Keeping
 pub mod Going

@@ -6,11 +6,13 @@ use Rattle.words.specs.Lexemes.{Lexeme, name, reserved, number, sign, shift, bra
 use Rattle.words.specs.Spots.{Spot, spot, past}
 use Rattle.words.specs.Cutting.{line, spell, lexemes}
 use Rattle.words.proofs.Walking.{each_word}
+use Rattle.text.specs.Refusals.{published}
+use Rattle.conditions.proofs.ByKind.{by_kind}
+use Rattle.plan_laws.proofs.Stepping.{finishes}
 use Rattle.conditions.specs.Machine.{Fault, form, refusal}
 use Rattle.conditions.specs.declared.wrong.Wrong.TheVariants.{Form, Taken, Unknown, Limit}
 use Rattle.plan.specs.Drafts.{Draft, Entry}
-use Rattle.plan.specs.Machine.{Stage, Motion, on, halt, step, start, rows, second, bases, measured, headed, asks, whole, finish, run, plan_of}
-use Rattle.plan.specs.Machine as machine
+use Rattle.plan.specs.Machine.{Stage, Motion, on, halt, step, start, whole, finish, run, plan_of}
 use Rattle.plan_laws.specs.Theorems.{after_words, FirstBadWord}
 
 -- a word or the end of a line
@@ -55,23 +57,14 @@ abbrev Reached : Spot → Spot → Type 0
 Reached a b = (a.line < b.line) ⊎ ((a.line ≡ b.line) × (a.word ≤ b.word))
 
 -- refusals tell their places
+told_at : (f : Fault) (a : Spot) → (published (refusal f a)).place ≡ a.line ∷ a.word ∷ []
+told_at Form a = refl
+told_at Taken a = refl
+told_at Unknown a = refl
+told_at Limit a = refl
+
 same_spot : (f g : Fault) (a b : Spot) → refusal f a ≡ refusal g b → (a.line ≡ b.line) × (a.word ≡ b.word)
-same_spot Form Form a b h = (cc, cc)
-same_spot Taken Taken a b h = (cc, cc)
-same_spot Unknown Unknown a b h = (cc, cc)
-same_spot Limit Limit a b h = (cc, cc)
-same_spot Form Taken a b h = cc
-same_spot Form Unknown a b h = cc
-same_spot Form Limit a b h = cc
-same_spot Taken Form a b h = cc
-same_spot Taken Unknown a b h = cc
-same_spot Taken Limit a b h = cc
-same_spot Unknown Form a b h = cc
-same_spot Unknown Taken a b h = cc
-same_spot Unknown Limit a b h = cc
-same_spot Limit Form a b h = cc
-same_spot Limit Taken a b h = cc
-same_spot Limit Unknown a b h = cc
+same_spot f g a b h = let e : ◌≡◌ {A = List ℕ} (a.line ∷ a.word ∷ []) (b.line ∷ b.word ∷ []) = sym (told_at f a) ∙ ap (λ r. (published r).place) h ∙ told_at g b in (cc, cc)
 
 unerr : (y z : Refusal) → ◌≡◌ {A = Result Draft Refusal} (Err y) (Err z) → y ≡ z
 unerr y z h = cc
@@ -81,15 +74,7 @@ here f g a b h = let s = same_spot f g a b (unerr _ _ h) in inr (s.0, omega (ari
 
 -- the place after a word, or after the end of a line
 past_shape : (x : Lexeme) (a : Spot) → Told x → (past x a ≡ spot a.line (a.word + 1)) ⊎ (past x a ≡ spot (a.line + 1) 1)
-past_shape (name u w) a t = inl refl
-past_shape (reserved k) a t = inl refl
-past_shape (number z) a t = inl refl
-past_shape (sign s) a t = inl refl
-past_shape (shift b) a t = inl refl
-past_shape (bracket b) a t = inl refl
-past_shape other a t = inl refl
-past_shape feed a t = inr refl
-past_shape cut a t = absurd t
+past_shape x a = by_kind (λ y. Told y → (past y a ≡ spot a.line (a.word + 1)) ⊎ (past y a ≡ spot (a.line + 1) 1)) (λ u w t. inl refl) (λ k t. inl refl) (λ z t. inl refl) (λ s t. inl refl) (λ b t. inl refl) (λ b t. inl refl) (λ t. inl refl) (λ t. inr refl) (λ t. absurd t) x
 
 -- what lies after the next place lies after this one
 back : (x : Lexeme) (a b : Spot) → Told x → Reached (past x a) b → Reached a b
@@ -125,19 +110,11 @@ strictly x a t h = by_shape (past_shape x a t)
 
 -- at the end of the text a missing word is refused where it should stand
 end_here : (st : Stage) (at b : Spot) (f : Fault) → finish st at ≡ Err (refusal f b) → Reached at b
-end_here (machine.line d) at b f h = by_columns d.columns h
+end_here st at b f = finishes (λ r. r ≡ Err (refusal f b) → Reached at b) at st (λ d e. by_columns d d.columns) (here form f at b)
   where
-    by_columns : (cs : List Entry) → whole d cs at ≡ Err (refusal f b) → Reached at b
-    by_columns [] g = here form f at b g
-    by_columns (c ∷ cs) g = cc
-end_here start at b f h = here form f at b h
-end_here (rows ns) at b f h = here form f at b h
-end_here (second rs) at b f h = here form f at b h
-end_here (bases rs ns) at b f h = here form f at b h
-end_here (machine.named d n) at b f h = here form f at b h
-end_here (measured d n k) at b f h = here form f at b h
-end_here (headed d g) at b f h = here form f at b h
-end_here (asks d g σ s) at b f h = here form f at b h
+    by_columns : (d : Draft) (cs : List Entry) → whole d cs at ≡ Err (refusal f b) → Reached at b
+    by_columns d [] g = here form f at b g
+    by_columns d (c ∷ cs) g = cc
 
 -- a refusal is not before the words that are read
 late : (st : Stage) (at b : Spot) (xs : List Lexeme) (f : Fault) → AllTold xs → run st at xs ≡ Err (refusal f b) → Reached at b

@@ -12,14 +12,6 @@ byte_in b bs h = cond-true (ltb b 256) (Some (b, bs)) None (lt-ltb b 256 h)
 number_more : (k b : ℕ) (bs rest : List ℕ) (n : ℕ) → b < 256 → number k bs ≡ Some (n, rest) → number (suc k) (b ∷ bs) ≡ Some (b + 256 * n, rest)
 number_more k b bs rest n h e = rw (byte_in b bs h, e)
 
--- a number of two bytes
-pub number_two : (bs : List ℕ) → 2 ≤ length bs → get_or bs 0 0 < 256 → get_or bs 1 0 < 256 → number 2 bs ≡ Some (get_or bs 0 0 + get_or bs 1 0 * 256, take (length bs - 2) (drop 2 bs))
-number_two [] h p q = absurd (omega arith)
-number_two (a ∷ []) h p q = absurd (omega arith)
-number_two (a ∷ b ∷ bs) h p q =
-    number_more 1 a (b ∷ bs) bs (b + 256 * 0) p (number_more 0 b bs bs 0 q refl)
-    ∙ ap (λ n. Some (n, bs)) (omega arith) ∙ ap (λ l. Some (a + b * 256, l)) (sym (take_rest (a ∷ b ∷ bs) 2))
-
 -- a number of four bytes
 pub number_four : (bs : List ℕ) → 4 ≤ length bs → get_or bs 0 0 < 256 → get_or bs 1 0 < 256 → get_or bs 2 0 < 256 → get_or bs 3 0 < 256 → number 4 bs ≡ Some (get_or bs 0 0 + get_or bs 1 0 * 256 + get_or bs 2 0 * 65536 + get_or bs 3 0 * 16777216, take (length bs - 4) (drop 4 bs))
 number_four [] h p q r s = absurd (omega arith)
@@ -61,10 +53,6 @@ times_step F r n x bs rest e =
     ∙ ap (changed F) (changed_twice listed (λ y. (x, y)) (times n r rest))
     ∙ changed_twice F (λ xs. x ∷ xs) (times n r rest)
 
--- one of n cannot be read
-pub times_none : {X Y : Type 0} (F : List X → Y) (r : Reader X) (n : ℕ) (bs : List ℕ) → None ≡ r bs → None ≡ changed F (times (suc n) r bs)
-times_none F r n bs e = ap (λ o. changed F (changed listed (go_on o (λ _. times n r)))) e
-
 -- one of c was passed over
 pub after_more : {X : Type 0} (r : Reader X) (c d : ℕ) (bs rest : List ℕ) → c ≡ suc d → Some rest ≡ after (r bs) → after (times c r bs) ≡ after (times d r rest)
 after_more r zero d bs rest h e = absurd (omega arith)
@@ -77,15 +65,6 @@ after_more {X} r (suc c) d bs rest h e = go (r bs) e ∙ ap (λ n. after (times 
     go None e = let z : ◌≡◌ {A = ℕ} 0 1 = cc in absurd (omega arith)
     go (Some q) e = let z : rest ≡ q.1 = cc in
         after_changed listed (changed (λ y. (q.0, y)) (times c r q.1)) ∙ after_changed (λ y. (q.0, y)) (times c r q.1) ∙ ap (λ l. after (times c r l)) (sym z)
-
--- one of c cannot be passed over
-pub after_none : {X : Type 0} (r : Reader X) (c : ℕ) (bs : List ℕ) → 0 < c → None ≡ after (r bs) → None ≡ after (times c r bs)
-after_none r zero bs h e = absurd (omega arith)
-after_none {X} r (suc c) bs h e = go (r bs) e
-  where
-    go : (o : Option (X × List ℕ)) → None ≡ after o → None ≡ after (changed listed (go_on o (λ _. times c r)))
-    go None e = refl
-    go (Some q) e = let z : ◌≡◌ {A = ℕ} 0 1 = cc in absurd (omega arith)
 
 -- n bytes as they lie
 

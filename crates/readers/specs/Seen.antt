@@ -11,3 +11,8 @@ seen (Some q) = Some (q.0, q.1.now)
 abbrev pub passed : Option (Bor (List ℕ)) → Option (List ℕ)
 passed None = None
 passed (Some r) = Some r.now
+
+-- what was filled and the bytes after what it was filled from
+abbrev pub filled : {X : Type 0} → X → Option (Bor (List ℕ)) → Option (X × List ℕ)
+filled x None = None
+filled x (Some r) = Some (x, r.now)

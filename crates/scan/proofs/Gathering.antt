@@ -1,22 +1,19 @@
 -- One pass gathers what the rows that meet the condition come to. Assumes nothing.
-use Rattle.std.proofs.Common.{◌≡◌, ℕ, zero, suc, ◌+◌, ◌<◌, ◌≤◌, Bool, true, false, cond, List, [], ◌∷◌, length, get_or, take, drop, ℤ, Some, None, Ok, Err, fold, sym, refl, ap, ◌∙◌, add-zero, zero-add, add-one, arith, Bor}
+use Rattle.std.proofs.Common.{◌≡◌, ℕ, zero, suc, ◌+◌, ◌<◌, ◌≤◌, Bool, true, false, cond, List, [], ◌∷◌, length, get_or, take, drop, ℤ, Some, None, Ok, Err, fold, sym, refl, ap, ◌∙◌, add-zero, zero-add, arith, Bor}
+use Rattle.std.proofs.lemmas.List.{length-map, get_or-map, drop_more}
 use Rattle.measures.specs.Meaning.{Meaning}
 use Rattle.plan.specs.declared.plan.Column.{Column}
 use Rattle.scan.specs.declared.found.Gathered.{Gathered}
 use Rattle.scan.specs.Scans.{rows_of, measured, meets, meeting, joined, gathered, with_row, column_at}
 
--- the rest of a list from a row on: that row, and the rest after it
-rest_from_suc : (rows : List (Bor (List ℤ))) (i : ℕ) (d : Bor (List ℤ)) → i < length rows → drop i (rows_of rows) ≡ (get_or rows i d).now ∷ drop (suc i) (rows_of rows)
-rest_from_suc [] i d h = absurd (omega arith)
-rest_from_suc (r ∷ rs) zero d h = refl
-rest_from_suc (r ∷ rs) (suc i) d h = rest_from_suc rs i d (omega arith)
-
-pub rest_from : (rows : List (Bor (List ℤ))) (i : ℕ) (d : Bor (List ℤ)) → i < length rows → drop i (rows_of rows) ≡ (get_or rows i d).now ∷ drop (i + 1) (rows_of rows)
-rest_from rows i d h = rw (add-one i) (rest_from_suc rows i d h)
-
 pub length_rows_of : (rows : List (Bor (List ℤ))) → length (rows_of rows) ≡ length rows
-length_rows_of [] = refl
-length_rows_of (r ∷ rs) = ap suc (length_rows_of rs)
+length_rows_of rows = length-map rows (λ (row : Bor (List ℤ)). row.now)
+
+-- the rest of a list from a row on: that row, and the rest after it
+pub rest_from : (rows : List (Bor (List ℤ))) (i : ℕ) (d : Bor (List ℤ)) → i < length rows → drop i (rows_of rows) ≡ (get_or rows i d).now ∷ drop (i + 1) (rows_of rows)
+rest_from rows i d h =
+    drop_more (rows_of rows) i d.now (omega (arith, length_rows_of rows))
+    ∙ ap (λ row. row ∷ drop (i + 1) (rows_of rows)) (get_or-map (λ (row : Bor (List ℤ)). row.now) rows i d d.now h)
 
 module _ {M V A : Type 0} (m : Meaning V A) (c : Column M) (base : List ℤ) where
   -- a row adds one at most
@@ -30,9 +27,6 @@ module _ {M V A : Type 0} (m : Meaning V A) (c : Column M) (base : List ℤ) whe
   gathers_on : (g : Gathered V) (rows : List (List ℤ)) → fold (with_row m c base) g rows ≡ record { value = fold (λ a row. m.join a (m.one (measured c.field row))) g.value (meeting c base rows); rows = g.rows + length (meeting c base rows) }
   gathers_on g [] = ap (λ n. record { value = g.value; rows = n }) (sym (add-zero g.rows))
   gathers_on g (r ∷ rs) = at (meets c base r) (λ h. gathers_on h rs) where
-    J : V → List ℤ → V
-    J a row = m.join a (m.one (measured c.field row))
-
     at : (b : Bool) → ((h : Gathered V) → fold (with_row m c base) h rs ≡ record { value = fold (λ a row. m.join a (m.one (measured c.field row))) h.value (meeting c base rs); rows = h.rows + length (meeting c base rs) }) →
         fold (with_row m c base) (cond b (record { value = m.join g.value (m.one (measured c.field r)); rows = g.rows + 1 }) g) rs ≡ record { value = fold (λ a row. m.join a (m.one (measured c.field row))) g.value (cond b (r ∷ meeting c base rs) (meeting c base rs)); rows = g.rows + length (cond b (r ∷ meeting c base rs) (meeting c base rs)) }
     at true ih = ih (record { value = m.join g.value (m.one (measured c.field r)); rows = g.rows + 1 }) ∙ ap (λ n. record { value = fold (λ a row. m.join a (m.one (measured c.field row))) (m.join g.value (m.one (measured c.field r))) (meeting c base rs); rows = n }) (omega arith)

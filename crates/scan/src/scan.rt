@@ -30,6 +30,7 @@ fn one_row<M: Measure>(measure: &M, field: Option<u8>, row: &[i32]) -> M::Value
 fn are_too_many(rows: &[&[i32]]) -> bool
     ensures { result ≡ nat_lt most_rows (length (rows_of rows.now)) }
 {
+    // `usize` has no `From<u32>`; `as` is proved to lose nothing
     rows.len() > MOST_ROWS as usize
 }
 
@@ -87,6 +88,7 @@ impl<M: Measure> Asked<'_, M> {
         if are_too_many(rows) {
             return Err(Refusal::TooManyRows);
         }
+        // there are few enough: `as` is proved to lose nothing, and `try_from` would have a case that never comes
         let met = all.rows as u32;
         Ok(Scanned {
             answer: self.column.measure.answer(all.value, met),

@@ -2,15 +2,10 @@
 use Rattle.std.proofs.Common.{◌≡◌, ℕ, zero, suc, ◌+◌, ◌-◌, ◌*◌, ◌^◌, ◌<◌, ◌≤◌, Bool, true, false, cond, not, ◌&&◌, eqb, ltb, leb, List, [], ◌∷◌, length, get_or, take, drop, Some, None, sym, refl, ap, ◌∙◌, pow-suc, add-one, arith}
 use native.Mathlib.Nat.{pow-le-pow_right}
 use Rattle.std.specs.Char.{is_ascii_digit}
-use Rattle.std.proofs.lemmas.List.{drop_all, drop_more, get_or-take, length-take-le}
+use Rattle.std.proofs.lemmas.List.{drop_more, get_or-take, length-take-le}
 use Rattle.std.proofs.lemmas.Bool.{cond-true, cond-false, and_parts, and_from, and_left, leb-true, le-leb, lt-ltb, le-ltb, eq-eqb, ne_eqb}
 use Rattle.std.specs.Str.{all_ascii_digits}
-use Rattle.text.specs.Numbers.{digits_front, front, read_on, plain, unsigned, positive, negative, number}
-
--- no digits in front of an empty text
-pub front_none : (k : ℕ) → digits_front k [] ≡ []
-front_none zero = refl
-front_none (suc k) = refl
+use Rattle.text.specs.Numbers.{digits_front, front, read_on, plain, unsigned}
 
 module _ (text : List ℕ) (i k : ℕ) (within : i < length text) where
   -- a digit goes on
@@ -20,10 +15,6 @@ module _ (text : List ℕ) (i k : ℕ) (within : i < length text) where
   -- another byte ends them
   pub front_stop : is_ascii_digit (get_or text i 0) ≡ false → digits_front (suc k) (drop i text) ≡ []
   front_stop d = ap (digits_front (suc k)) (drop_more text i 0 within) ∙ cond-false (is_ascii_digit (get_or text i 0)) _ _ d
-
--- past the text there are none
-pub front_past : (text : List ℕ) (i k : ℕ) → length text ≤ i → digits_front k (drop i text) ≡ []
-front_past text i k h = ap (digits_front k) (drop_all i text h) ∙ front_none k
 
 -- fewer than nine digits write a number below a hundred million
 pub few_small : (i n : ℕ) → i < 9 → n < 10 ^ i → n < 10 ^ 8
@@ -69,10 +60,10 @@ passed_all text count value p e =
     (omega (arith, p.long, ap (λ l. count + length l) e), sym (p.worth ∙ ap (read_on value) e), most_small count value p.few p.small)
 
 -- a byte among the first ones of a text is the text's own
-pub among_first : (text : List ℕ) (most i count : ℕ) → most ≤ 9 → most ≤ length text → i < length (take most text) → count ≡ i → (count < 9) × (count < length text) × (get_or (take most text) i 0 ≡ get_or text count 0)
-among_first text most i count few within h e =
+pub among_first : (text : List ℕ) (most i : ℕ) → most ≤ 9 → most ≤ length text → i < length (take most text) → (i < 9) × (i < length text) × (get_or (take most text) i 0 ≡ get_or text i 0)
+among_first text most i few within h =
     let l = length-take-le most text within in
-    (omega arith, omega arith, get_or-take most text i 0 (omega arith) ∙ ap (λ k. get_or text k 0) (sym e))
+    (omega arith, omega arith, get_or-take most text i 0 (omega arith))
 
 -- the digits in front are digits
 pub front_digits : (k : ℕ) (text : List ℕ) → all_ascii_digits (digits_front k text) ≡ true

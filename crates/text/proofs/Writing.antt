@@ -1,10 +1,8 @@
 -- What was written into a buffer is found in it. Assumes nothing.
-use Rattle.std.proofs.Common.{◌≡◌, ℕ, suc, true, false, cond, None, Option, subst, ◌+◌, ◌-◌, ◌/◌, ◌%◌, ◌^◌, ◌<◌, ◌≤◌, Bool, List, [], ◌∷◌, ◌++◌, length, take, drop, set, ℤ, pos, negsuc, nat_abs, Some, decimal, sym, refl, ap, ◌∙◌, arith}
-use lib.Signed.{lt_z}
-use Rattle.std.proofs.lemmas.Fmt.{decimal_step, decimal_digit, decimal_nonempty}
+use Rattle.std.proofs.Common.{◌≡◌, ℕ, true, false, None, Option, subst, ◌+◌, ◌-◌, ◌≤◌, Bool, List, ◌++◌, length, take, drop, ℤ, Some, sym, refl, ap, ◌∙◌, arith}
 use Rattle.std.specs.Prelude.{IfSome, if◌then◌else◌}
 use Rattle.std.proofs.lemmas.Bool.{leb-true}
-use Rattle.std.proofs.lemmas.List.{append_assoc, length-append, length_push, length-set, length-take-le, take_at, drop_at, drop-drop, take-append-drop, drop-set, take-set-le, set_split}
+use Rattle.std.proofs.lemmas.List.{length-take-le, take_at, drop_at}
 use Rattle.measures.specs.Values.{RowValue}
 use Rattle.text.specs.Numbers.{number, over, written, has_room}
 use Rattle.text.proofs.Words.{back}

@@ -1,5 +1,5 @@
 // Numbers as text: `0`, or one to nine digits without a leading zero, with `-` before a negative one.
-ghost use Rattle.std.specs.Prelude.{◌≡◌, ◌+◌, ◌-◌, ◌*◌, ◌^◌, ◌<◌, ◌≤◌, not, ◌&&◌, ltb, length, take, drop, pos, IfSome, if◌then◌else◌, Some, None, decimal, ◌==◌, int_lt, nat_le, nat_lt};
+ghost use Rattle.std.specs.Prelude.{◌≡◌, ◌+◌, ◌-◌, ◌*◌, ◌^◌, ◌<◌, ◌≤◌, not, ◌&&◌, ltb, length, take, drop, IfSome, if◌then◌else◌, Some, None, ◌==◌, nat_le, nat_lt};
 ghost use Rattle.measures.specs.Values.{RowValue};
 ghost use Rattle.std.specs.Char.{is_ascii_digit};
 ghost use Rattle.text.specs.Numbers.{read_on, unsigned, number, positive, negative, front, digits_front, written, over, has_room, Exactly};
@@ -7,7 +7,8 @@ ghost use Rattle.text.specs.Numbers.{read_on, unsigned, number, positive, negati
 // The most digits that a number in a text has.
 pub const MOST_DIGITS: usize = 9;
 
-// Digits at the front of a text: how many, and the number that they write.
+// Digits at the front of a text: how many, and the number that they write. That this is below 10^9 is said by contracts
+// and not here: the fields are public, and an invariant would ask it of whoever makes one.
 #[derive(Clone, Copy)]
 pub struct Digits {
     pub count: usize,
@@ -44,16 +45,18 @@ pub fn front_digits(text: &[u8]) -> Digits
     ensures small { result.value < 10 ^ 9 }
     ensures within { result.count ≤ length text.now }
 {
-    let mut count = 0;
+    let front = &text[..text.len().min(MOST_DIGITS)];
     let mut value = 0;
-    for byte in &text[..text.len().min(MOST_DIGITS)] {
+    for (count, byte) in front.iter().enumerate() {
         if !is_digit(*byte) {
-            break;
+            return Digits { count, value };
         }
         value = with_digit(value, *byte);
-        count += 1;
     }
-    Digits { count, value }
+    Digits {
+        count: front.len(),
+        value,
+    }
 }
 
 // Whether digits may begin so: with 0 only where it stands alone.

@@ -37,7 +37,7 @@ pub enum Refusal {
 }
 
 impl Refusal {
-    // The published number.
+    // The published number. Code goes by the enum; only what is told has the number.
     pub fn number(&self) -> u8
         ensures { result ≡ (published self.now).number }
     {

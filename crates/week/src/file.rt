@@ -5,7 +5,6 @@ use anyhow::{Context, anyhow};
 use cells::cell::Cell;
 use cells::id::GroupId;
 use cells::place::Place;
-use feeds::fault::Fault;
 use feeds::feed::Feed;
 use feeds::row::Row;
 use feeds::sheet::SheetFeed;
@@ -45,7 +44,7 @@ fn contribution(row: &Row) -> Cell<AnyValue> {
 // Adds each row of a feed to its group, and counts the rows.
 fn gather<F: Feed>(feed: &mut F, groups: &mut OpenGroups<AnyValue>) -> anyhow::Result<u32> {
     let mut rows: u32 = 0;
-    while let Ok(Some(row)) = feed.next() {
+    while let Some(row) = feed.next().map_err(|_| anyhow!("a sheet has a bad line"))? {
         groups.add(&SCORE, contribution(&row))?;
         rows = rows.saturating_add(1);
     }
@@ -108,7 +107,7 @@ fn tell_file(rt: &HostRuntime, rows: u32, cells: &[Cell<AnyValue>]) -> anyhow::R
         mask: PLAYER_MASK,
     };
     let mut buffer = [0u8; BUFFER];
-    let length = write(WIDTH as u8, rows, &[shape], cells, &mut buffer).map_err(unforeseen)?;
+    let length = write(WIDTH, rows, &[shape], cells, &mut buffer).map_err(unforeseen)?;
     let bytes = front(&buffer, length)?;
     println!(rt; "Their hall file, {length} bytes:")?;
     tell_bytes(rt, bytes)?;
@@ -120,7 +119,7 @@ fn tell_file(rt: &HostRuntime, rows: u32, cells: &[Cell<AnyValue>]) -> anyhow::R
 
 // All games of a sheet grouped by player, and the hall file of these groups.
 pub(crate) fn tell_groups(rt: &HostRuntime, text: &[u8]) -> anyhow::Result<()> {
-    let mut sheet = SheetFeed::new(text, WIDTH).map_err(unforeseen)?;
+    let mut sheet = SheetFeed::new(text, usize::from(WIDTH)).map_err(unforeseen)?;
     let places = vec![in rt.alloc(); Place::new(contribution(&[0; 8])); PLACES]?;
     let Ok(mut groups) = OpenGroups::start(places) else {
         return Err(anyhow!("too many places"));

@@ -10,7 +10,7 @@ use text::refusal::Refusal;
 // The player whose games are followed, and where a row has what.
 pub(crate) const PLAYER: i32 = 7;
 
-pub(crate) const WIDTH: usize = 6;
+pub(crate) const WIDTH: u8 = 6;
 
 const PLAYER_FIELD: usize = 0;
 
@@ -31,6 +31,7 @@ pub(crate) const SLIP: &[u8] = b"7 6 4 2 1500 1590
 7 8 2 2 1500 1810
 ";
 
+// Points are a value of a row like any other: a type for them would have to take every number.
 fn result_name(points: i32) -> &'static str {
     match points {
         2 => "a win",
@@ -83,7 +84,7 @@ fn points_of<F: Feed>(rt: &HostRuntime, feed: &mut F) -> anyhow::Result<Vec<i32>
 
 // The points of the player whose games are followed, from a sheet of all games.
 pub(crate) fn tell_games(rt: &HostRuntime, text: &[u8]) -> anyhow::Result<Vec<i32>> {
-    let sheet = SheetFeed::new(text, WIDTH).map_err(unforeseen)?;
+    let sheet = SheetFeed::new(text, usize::from(WIDTH)).map_err(unforeseen)?;
     match Section::new(sheet, PLAYER_FIELD, PLAYER) {
         Ok(mut games) => points_of(rt, &mut games),
         Err((_, refusal)) => Err(unforeseen(refusal)),

@@ -1,6 +1,6 @@
 // Plans, and the standing of one player.
 use any_measure::any::{AnyMeasure, AnyValue};
-use any_measure::over::answer_over;
+use any_measure::over::{answer_over, joined};
 use measures::measure::Measure;
 use plan::reading::read_plan;
 
@@ -38,18 +38,11 @@ pub(crate) fn tell_standing(rt: &HostRuntime, points: &[i32]) -> anyhow::Result<
     tell_answer(rt, "mean", AnyMeasure::Mean, points)
 }
 
-// The value of some games: each one by itself, joined in turn.
-fn value_of(kind: AnyMeasure, points: &[i32]) -> AnyValue {
-    points.iter().fold(kind.none(), |value, point| {
-        kind.join(value, kind.one(&[*point]))
-    })
-}
-
 // Two evenings joined: two games on Friday, three on Saturday.
 pub(crate) fn tell_two_evenings(rt: &HostRuntime) -> anyhow::Result<()> {
     let mean = AnyMeasure::Mean;
-    let friday = value_of(mean, &[2, 1]);
-    let saturday = value_of(mean, &[0, 2, 1]);
+    let friday = joined(&mean, &[2, 1]);
+    let saturday = joined(&mean, &[0, 2, 1]);
     let both = mean.answer(mean.join(friday, saturday), 5);
     let friday = mean.answer(friday, 2);
     let saturday = mean.answer(saturday, 3);

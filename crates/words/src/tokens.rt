@@ -1,7 +1,7 @@
 // What a word of a plan is.
 ghost use Rattle.std.specs.Prelude.{◌≡◌, ℕ, Bool};
 ghost use Rattle.std.specs.Fn.{FnReturnsAt};
-ghost use Rattle.words.specs.Lexemes.{seen, keyword_of, letters, lexeme, mark_in, marked, name_long, name_of};
+ghost use Rattle.words.specs.Lexemes.{same, seen, keyword_of, letters, lexeme, mark_in, marked, name_long, name_of};
 ghost use Rattle.words.specs.Spots.{spot, token_spot};
 
 use crate::signs::{Mark, Sign, mark_of};
@@ -103,6 +103,13 @@ fn is_name<F: Fn(&u8) -> bool>(text: &[u8], is_letter: F) -> bool
     ensures { (test : ℕ → Bool) → ((b : ℕ) (r : Bool) → FnReturnsAt F.Fn is_letter b r → r ≡ test b) → result ≡ name_of test text.now }
 {
     is_name_long(text) && text.iter().all(is_letter)
+}
+
+// Whether a text is that word.
+pub fn is_same(text: &[u8], word: &[u8]) -> bool
+    ensures { result ≡ same text.now word.now }
+{
+    text == word
 }
 
 // The keyword that a text is, if it is one.

@@ -1,5 +1,5 @@
 // From word to word.
-ghost use Rattle.std.specs.Prelude.{◌≡◌, ◌-◌, ◌≤◌, length, take, drop, ◌==◌};
+ghost use Rattle.std.specs.Prelude.{◌≡◌, ◌-◌, ◌≤◌, length, take, ◌==◌};
 ghost use Rattle.std.specs.List.{position_from};
 ghost use Rattle.words.specs.Lexemes.{seen};
 ghost use Rattle.words.specs.Spots.{spot, token_spot, past};

@@ -2,12 +2,12 @@ use Rattle.std.proofs.Common.{◌≡◌, ◌+◌, ◌++◌, length, get_or, take
 use Rattle.std.proofs.lemmas.Int.{ints}
 use Rattle.std.proofs.lemmas.List.{length-set}
 use Rattle.conditions.specs.Keys.{spread}
-use Rattle.conditions.proofs.Spreading.{filled, skipped, spread_all, zeros, zeros_past}
+use Rattle.conditions.proofs.Spreading.{filled, skipped, spread_all, all_same, zeros_past}
 use Rattle.conditions.proofs.keys.row_of_key.Goals as goal
 use Rattle.conditions.proofs.keys.row_of_key.Goals.{then-held, else-held}
 
 pub loop-i-init : goal.loop-i-init
-loop-i-init c = (refl, refl, λ k h. zeros 8 k)
+loop-i-init c = (refl, refl, λ k h. all_same 8 k _)
 
 pub loop-i-preserved : goal.loop-i-preserved
 loop-i-preserved c = elim c.if-held.branch [

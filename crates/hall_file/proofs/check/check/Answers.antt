@@ -4,12 +4,9 @@ use Rattle.std.proofs.lemmas.List.{append-nil}
 use Rattle.std.proofs.lemmas.Bool.{both_ways, eq-eqb}
 use Rattle.hall_file.specs.Written.{file_bytes}
 use Rattle.hall_file.specs.Views.{FirstFile}
-use Rattle.hall_file.proofs.Forms.{Lawful, one_file}
-use Rattle.hall_file.proofs.check.check.Given.{Over}
+use Rattle.hall_file.proofs.Forms.{one_file}
+use Rattle.hall_file.proofs.Laws.{lawful}
 use Rattle.hall_file.proofs.check.check.Goals as goal
-
-laws : (g : Over) → Lawful g.M.Measure.meaning g.M.Measure.found
-laws g = record { keeps = g.met.M.Measure.keeps; formed = g.met.M.Measure.formed; finds = g.met.M.Measure.found_by_its_kind; found_by = g.met.M.Measure.has_the_kind_it_is_found_by }
 
 pub returns-else-is_empty : goal.returns-else-is_empty
 returns-else-is_empty g c =
@@ -17,6 +14,6 @@ returns-else-is_empty g c =
     let rest = c.in_ok-view.rest.now in (
       refl,
       λ w.
-          let nil = (one_file (laws g) q.0 w.0 rest [] q.1 w.1 (sym q.2 ∙ w.2 ∙ sym (append-nil (file_bytes g.M.Measure.meaning w.0)))).1 in
+          let nil = (one_file (lawful g.met.M.Measure) q.0 w.0 rest [] q.1 w.1 (sym q.2 ∙ w.2 ∙ sym (append-nil (file_bytes g.M.Measure.meaning w.0)))).1 in
           both_ways (eqb (length rest) 0) (sym c.if-is_empty.ensures) (eq-eqb (length rest) 0 (ap length nil)),
     )

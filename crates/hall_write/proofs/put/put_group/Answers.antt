@@ -1,15 +1,9 @@
 -- Key, rows, value.
-use Rattle.std.proofs.Common.{◌++◌, sym, ◌∙◌, subst, count_ones}
+use Rattle.std.proofs.Common.{◌++◌, sym, ◌∙◌, subst}
 use Rattle.measures.specs.Bytes.{bytes_of}
-use Rattle.hall_file.specs.Written.{key_bytes}
 use Rattle.hall_write.specs.Over.{HasRoom}
 use Rattle.hall_write.proofs.Overs.{puts_as, puts_more, room_first, room_more, le_four}
 use Rattle.hall_write.proofs.put.put_group.Goals as goal
-
-pub put_key-requires : goal.put_key-requires
-put_key-requires g c =
-    let x = c.args.cell.now in
-    room_first (key_bytes (count_ones c.args.shape.now.mask) x.id.key) (bytes_of 4 x.rows ++ (g.M.Measure.meaning c.args.shape.now.measure).written x.value) c.args.out.now c.requires
 
 pub put-requires : goal.put-requires
 put-requires g c =

@@ -1,7 +1,7 @@
 -- One column at a time.
 use Rattle.hall_file.specs.Written.{column_bytes}
-use Rattle.hall_write.proofs.Overs.{doing_all, doing_room, doing_more, doing_end}
-use Rattle.hall_write.proofs.Lengths.{columns_at, columns_none, the_column}
+use Rattle.hall_write.proofs.Overs.{doing_all, doing_room, doing_more}
+use Rattle.hall_write.proofs.Lengths.{columns_at, the_column}
 use Rattle.hall_write.proofs.write.put_columns.Goals as goal
 
 pub loop-number-init : goal.loop-number-init
@@ -22,6 +22,3 @@ loop-number-preserved g c =
     let cs = c.args.cells.now in
     let i = c.loop-number.number in
     doing_more c.loop-number.invariant (column_bytes m (the_column m i s cs)) _ (columns_at m c.args.shapes.now cs i s c.loop-number-test.true c.index-shapes-number.is) c.requires c.put_column.new.out c.put_column.ensures
-
-pub returns : goal.returns
-returns g c = doing_end c.loop-number.invariant (columns_none g.M.Measure.meaning c.args.shapes.now c.args.cells.now c.loop-number.number c.loop-number-test.false)

@@ -1,13 +1,10 @@
 -- The head and then the columns, where there is room for both.
-use Rattle.std.proofs.Common.{◌≡◌, List, ℕ, ◌++◌, length, drop, sym, refl, ap, ◌∙◌, arith, rules}
+use Rattle.std.proofs.Common.{◌≡◌, List, ℕ, ◌++◌, length, drop, sym, ap, ◌∙◌, arith, rules}
 use Rattle.hall_file.specs.Written.{head_bytes, columns_bytes, file_bytes}
 use Rattle.hall_write.specs.Laid.{laid, content_of}
 use Rattle.hall_write.proofs.Overs.{puts_as, puts_more, room_more, over_front}
 use Rattle.hall_write.proofs.Lengths.{file_size, file_is}
 use Rattle.hall_write.proofs.write.write.Goals as goal
-
-pub returns-in_default : goal.returns-in_default
-returns-in_default g c = (refl, c.in_default.ensures c.args.fields c.args.rows, refl)
 
 pub put-requires : goal.put-requires
 put-requires g c =

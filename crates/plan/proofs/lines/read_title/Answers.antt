@@ -6,7 +6,7 @@ use Rattle.plan.specs.Drafts.{columns_of, draft_of}
 use Rattle.plan.specs.Machine.{admit, named}
 use Rattle.plan.specs.Promises.{onto, Leads}
 use Rattle.plan.proofs.Pairing.{paired_names, paired_long}
-use Rattle.plan.proofs.Asking.{made_weaker}
+use Rattle.std.proofs.lemmas.Result.{IfOk-weaker}
 use Rattle.plan.proofs.lines.read_title.Goals as goal
 
 pub returns-clause-value : goal.returns-clause-value
@@ -17,4 +17,4 @@ returns-clause-value c =
 
 pub returns-clause-room : goal.returns-clause-room
 unfolding columns_of
-returns-clause-room c = made_weaker c.read_new.result _ _ (λ t h. omega (arith, h, paired_long (texts c.args.plan.now.titles) c.args.plan.now.columns.places)) c.read_new.ensures.room
+returns-clause-room c = IfOk-weaker c.read_new.result _ _ (λ t h. omega (arith, h, paired_long (texts c.args.plan.now.titles) c.args.plan.now.columns.places)) c.read_new.ensures.room

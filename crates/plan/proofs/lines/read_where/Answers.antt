@@ -5,8 +5,10 @@ use Rattle.plan.specs.Lines.{following}
 use Rattle.plan.specs.Drafts.{with_column, no_fields}
 use Rattle.plan.specs.Machine.{after_head, headed, line}
 use Rattle.plan.specs.Promises.{rest}
-use Rattle.plan.proofs.Motions.{moves_by, advanced, halted, later_shorter, leads_from}
-use Rattle.plan.proofs.Asking.{where_leads, where_shorter, made_weaker}
+use Rattle.plan.proofs.Motions.{moves_by, advanced, halted, leads_from}
+use Rattle.conditions.proofs.Moves.{later_shorter}
+use Rattle.plan.proofs.Asking.{where_leads, where_shorter}
+use Rattle.std.proofs.lemmas.Result.{IfOk-weaker}
 use Rattle.plan.proofs.lines.read_where.Goals as goal
 
 pub returns-in_default-clause-value : goal.returns-in_default-clause-value
@@ -19,7 +21,7 @@ returns-in-End-clause-value c = λ d h e b.
     ∙ ap (λ ts. rest c.advance.new.self (line (with_column d h (asked ts) no_fields))) (sym c.always.ensures.none)
 
 pub returns-in-Where-clause-on : goal.returns-in-Where-clause-on
-returns-in-Where-clause-on c = made_weaker c.read_condition.result _ _ (λ r h. omega (arith, h, ap length c.advance.ensures.words, later_shorter (to_come c.args.words.now))) (where_shorter c.advance.new.self c.read_condition.new.words c.args.names.now c.read_condition.result c.read_condition.ensures.value)
+returns-in-Where-clause-on c = IfOk-weaker c.read_condition.result _ _ (λ r h. omega (arith, h, ap length c.advance.ensures.words, later_shorter (to_come c.args.words.now))) (where_shorter c.advance.new.self c.read_condition.new.words c.args.names.now c.read_condition.result c.read_condition.ensures.value)
 
 pub returns-in-Where-clause-value : goal.returns-in-Where-clause-value
 returns-in-Where-clause-value c = λ d h e b.

@@ -1,10 +1,13 @@
 use Rattle.std.proofs.Common.{◌≡◌, ◌+◌, ◌-◌, ◌<◌, [], ◌∷◌, Some, None, sym, refl, ap, ◌∙◌, arith}
 use Rattle.std.proofs.lemmas.Result.{IfOk-from_err}
+use Rattle.conditions.specs.Trees.{denial, bracketed, both, either}
 use Rattle.conditions.specs.Machine.{along, after, settled, deep, denied, inside}
 use Rattle.conditions.specs.Postfix.{tree, below}
 use Rattle.conditions.specs.Promises.{rest, looks, opened}
-use Rattle.conditions.proofs.Moves.{fails, two, stays, denies, enters, denied_too_deep, bracket_too_deep, plainly, joins_and, joins_or, closes, shuts, not_closed}
-use Rattle.conditions.proofs.Growth.{leaf_grown, denial_grown, bracket_grown, both_grown, either_grown, same_grown}
+use Rattle.conditions.proofs.Moves.{fails, two, stays, deepens, too_deep, plainly, joins_and, joins_or, closes, shuts, not_closed}
+use Rattle.conditions.specs.declared.reader.Opening.TheVariants.{Denial, Bracket}
+use Rattle.conditions.specs.declared.condition.Step.TheVariants as step
+use Rattle.conditions.proofs.Growth.{leaf_grown, around_grown, joint_grown, same_grown}
 use Rattle.conditions.proofs.reader.Reader.+conjunction_disjunction_term.Goals as goal
 
 pub conjunction-returns-in_err-term : goal.conjunction-returns-in_err-term
@@ -27,7 +30,7 @@ conjunction-returns-in_err-term-2 t c = record {
 
 pub conjunction-loop-self-preserved : goal.conjunction-loop-self-preserved
 conjunction-loop-self-preserved t c =
-    let g = both_grown c.term-in-loop-self.new.out c.push.new.self c.push.ensures.used c.loop-self.out _ c.loop-self.self c.term-in-loop-self.new.self c.args.depth c.loop-self.invariant.2 c.in_ok-term-2.ensures.grown c.push.ensures.trees in (
+    let g = joint_grown c.term-in-loop-self.new.out c.push.new.self c.push.ensures.used step.And both (λ t u us. refl) c.loop-self.out _ c.loop-self.self c.term-in-loop-self.new.self c.args.depth c.loop-self.invariant.2 c.in_ok-term-2.ensures.grown c.push.ensures.trees in (
       two _ _ _ c.loop-self.invariant.0 (two _ _ _ c.advance.ensures.on c.term-in-loop-self.ensures.on),
       λ o ls d.
           c.loop-self.invariant.1 o ls d
@@ -57,7 +60,7 @@ disjunction-returns-in_err-conjunction-2 t c = record {
 
 pub disjunction-loop-self-preserved : goal.disjunction-loop-self-preserved
 disjunction-loop-self-preserved t c =
-    let g = either_grown c.conjunction-in-loop-self.new.out c.push.new.self c.push.ensures.used c.loop-self.out _ c.loop-self.self c.conjunction-in-loop-self.new.self c.args.depth c.loop-self.invariant.3 c.in_ok-conjunction-2.ensures.grown c.push.ensures.trees in (
+    let g = joint_grown c.conjunction-in-loop-self.new.out c.push.new.self c.push.ensures.used step.Or either (λ t u us. refl) c.loop-self.out _ c.loop-self.self c.conjunction-in-loop-self.new.self c.args.depth c.loop-self.invariant.3 c.in_ok-conjunction-2.ensures.grown c.push.ensures.trees in (
       two _ _ _ c.loop-self.invariant.0 (two _ _ _ c.advance.ensures.on c.conjunction-in-loop-self.ensures.on),
       λ ls d.
           c.loop-self.invariant.1 ls d
@@ -81,7 +84,7 @@ pub term-returns-then-depth-eq0 : goal.term-returns-then-depth-eq0
 term-returns-then-depth-eq0 t c = record {
   on = stays c.args.self.now c.args.self.now refl refl;
   grown = tt;
-  value = λ p d. denied_too_deep (looks c.args.names.now) c.args.self.now p _ c.in-Denial.ensures (omega (arith, d, c.if-depth-eq0.true)) c.at.ensures;
+  value = λ p d. too_deep (looks c.args.names.now) c.args.self.now p Denial (denied p) refl _ c.in-Denial.ensures (omega (arith, d, c.if-depth-eq0.true)) c.at.ensures;
 }
 
 pub term-returns-in_err-term-in-Denial : goal.term-returns-in_err-term-in-Denial
@@ -92,20 +95,20 @@ term-returns-in_err-term-in-Denial t c = record {
       let low : deep p < 8 = omega (arith, d, c.if-depth-eq0.false) in
       let more : deep (denied p) + (c.args.depth - 1) ≡ 8 = omega (arith, d, c.if-depth-eq0.false) in
       fails _ _ _ (λ _. settled p (tree c.term.new.out)) _ _ c.from_residual.ensures.1
-      (denies (looks c.args.names.now) c.args.self.now p c.advance.new.self c.in-Denial.ensures low c.advance.ensures.goes
+      (deepens (looks c.args.names.now) c.args.self.now p Denial (denied p) refl c.advance.new.self c.in-Denial.ensures low c.advance.ensures.goes
       ∙ c.in_err-term-in-Denial.ensures.value (denied p) more);
 }
 
 pub term-returns-in_ok-term-in-Denial : goal.term-returns-in_ok-term-in-Denial
 term-returns-in_ok-term-in-Denial t c =
-    let g = denial_grown c.term.new.out c.push.new.self c.push.ensures.used _ c.term.new.self c.args.depth (omega (arith, c.if-depth-eq0.false)) c.in_ok-term-in-Denial.ensures.grown c.push.ensures.trees in
+    let g = around_grown c.term.new.out c.push.new.self c.push.ensures.used step.Not denial (λ t us. refl) _ c.term.new.self c.term.new.self c.args.depth (omega (arith, c.if-depth-eq0.false)) c.in_ok-term-in-Denial.ensures.grown (stays c.term.new.self c.term.new.self refl refl) c.push.ensures.trees in
     record {
       on = two _ _ _ c.advance.ensures.on c.term.ensures.on;
       grown = g.0;
       value = λ p d.
           let low : deep p < 8 = omega (arith, d, c.if-depth-eq0.false) in
           let more : deep (denied p) + (c.args.depth - 1) ≡ 8 = omega (arith, d, c.if-depth-eq0.false) in
-          denies (looks c.args.names.now) c.args.self.now p c.advance.new.self c.in-Denial.ensures low c.advance.ensures.goes
+          deepens (looks c.args.names.now) c.args.self.now p Denial (denied p) refl c.advance.new.self c.in-Denial.ensures low c.advance.ensures.goes
           ∙ c.in_ok-term-in-Denial.ensures.value (denied p) more
           ∙ ap (λ u. rest (looks c.args.names.now) c.term.new.self (settled p u)) (sym g.1);
     }
@@ -114,7 +117,7 @@ pub term-returns-then-depth-eq0-2 : goal.term-returns-then-depth-eq0-2
 term-returns-then-depth-eq0-2 t c = record {
   on = stays c.args.self.now c.args.self.now refl refl;
   grown = tt;
-  value = λ p d. bracket_too_deep (looks c.args.names.now) c.args.self.now p _ c.in-Bracket.ensures (omega (arith, d, c.if-depth-eq0-2.true)) c.at-then-depth-eq0-2.ensures;
+  value = λ p d. too_deep (looks c.args.names.now) c.args.self.now p Bracket (inside p) refl _ c.in-Bracket.ensures (omega (arith, d, c.if-depth-eq0-2.true)) c.at-then-depth-eq0-2.ensures;
 }
 
 pub term-returns-in_err-disjunction-in-Bracket : goal.term-returns-in_err-disjunction-in-Bracket
@@ -125,20 +128,20 @@ term-returns-in_err-disjunction-in-Bracket t c = record {
       let low : deep p < 8 = omega (arith, d, c.if-depth-eq0-2.false) in
       let more : deep (inside p) + (c.args.depth - 1) ≡ 8 = omega (arith, d, c.if-depth-eq0-2.false) in
       fails _ _ _ (λ _. settled p (tree c.disjunction.new.out)) _ _ c.from_residual-in_err-disjunction-in-Bracket.ensures.1
-      (enters (looks c.args.names.now) c.args.self.now p c.advance-in-Bracket.new.self c.in-Bracket.ensures low c.advance-in-Bracket.ensures.goes
+      (deepens (looks c.args.names.now) c.args.self.now p Bracket (inside p) refl c.advance-in-Bracket.new.self c.in-Bracket.ensures low c.advance-in-Bracket.ensures.goes
       ∙ c.in_err-disjunction-in-Bracket.ensures.value (p.here ∷ p.outer) more);
 }
 
 pub term-returns-else-not-joins : goal.term-returns-else-not-joins
 term-returns-else-not-joins t c =
-    let g = bracket_grown c.disjunction.new.out c.push-in-Bracket.new.self c.push-in-Bracket.ensures.used _ c.disjunction.new.self c.advance-in-Bracket-2.new.self c.args.depth (omega (arith, c.if-depth-eq0-2.false)) c.in_ok-disjunction-in-Bracket.ensures.grown c.advance-in-Bracket-2.ensures.on c.push-in-Bracket.ensures.trees in
+    let g = around_grown c.disjunction.new.out c.push-in-Bracket.new.self c.push-in-Bracket.ensures.used step.Bracket bracketed (λ t us. refl) _ c.disjunction.new.self c.advance-in-Bracket-2.new.self c.args.depth (omega (arith, c.if-depth-eq0-2.false)) c.in_ok-disjunction-in-Bracket.ensures.grown c.advance-in-Bracket-2.ensures.on c.push-in-Bracket.ensures.trees in
     record {
       on = two _ _ _ (two _ _ _ c.advance-in-Bracket.ensures.on c.disjunction.ensures.on) c.advance-in-Bracket-2.ensures.on;
       grown = g.0;
       value = λ p d.
           let low : deep p < 8 = omega (arith, d, c.if-depth-eq0-2.false) in
           let more : deep (inside p) + (c.args.depth - 1) ≡ 8 = omega (arith, d, c.if-depth-eq0-2.false) in
-          enters (looks c.args.names.now) c.args.self.now p c.advance-in-Bracket.new.self c.in-Bracket.ensures low c.advance-in-Bracket.ensures.goes
+          deepens (looks c.args.names.now) c.args.self.now p Bracket (inside p) refl c.advance-in-Bracket.new.self c.in-Bracket.ensures low c.advance-in-Bracket.ensures.goes
           ∙ c.in_ok-disjunction-in-Bracket.ensures.value (p.here ∷ p.outer) more
           ∙ closes (looks c.args.names.now) c.disjunction.new.self None (tree c.disjunction.new.out) p.outer c.advance-in-Bracket-2.new.self p.here (c.if-not-joins.ensures.yes refl) c.advance-in-Bracket-2.ensures.goes
           ∙ ap (λ u. rest (looks c.args.names.now) c.advance-in-Bracket-2.new.self (settled p u)) (sym g.1);
@@ -151,7 +154,7 @@ term-returns-then-not-joins t c = record {
   value = λ p d.
       let low : deep p < 8 = omega (arith, d, c.if-depth-eq0-2.false) in
       let more : deep (inside p) + (c.args.depth - 1) ≡ 8 = omega (arith, d, c.if-depth-eq0-2.false) in
-      enters (looks c.args.names.now) c.args.self.now p c.advance-in-Bracket.new.self c.in-Bracket.ensures low c.advance-in-Bracket.ensures.goes
+      deepens (looks c.args.names.now) c.args.self.now p Bracket (inside p) refl c.advance-in-Bracket.new.self c.in-Bracket.ensures low c.advance-in-Bracket.ensures.goes
       ∙ c.in_ok-disjunction-in-Bracket.ensures.value (p.here ∷ p.outer) more
       ∙ not_closed (looks c.args.names.now) c.disjunction.new.self None (tree c.disjunction.new.out) p.outer p.here _ c.in_ok-disjunction-in-Bracket.ensures.ends.0 c.in_ok-disjunction-in-Bracket.ensures.ends.1 (c.if-not-joins.ensures.no refl) c.at-then-not-joins.ensures;
 }

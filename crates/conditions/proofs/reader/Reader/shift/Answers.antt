@@ -2,13 +2,13 @@ use Rattle.std.proofs.Common.{◌≡◌, sym, refl, ap, ◌∙◌, arith, w32, S
 use Rattle.std.proofs.lemmas.Int.{ints}
 use Rattle.conditions.specs.Machine.{field, by, shifted, shift_of}
 use Rattle.conditions.specs.Promises.{seen_by}
-use Rattle.conditions.proofs.Moves.{same_step, unshifted, not_shift, goes_on, refuses, by_none, two, stays}
+use Rattle.conditions.proofs.Moves.{same_step, unshifted, goes_on, refuses, by_none, two, stays}
 use Rattle.conditions.proofs.reader.Reader.shift.Goals as goal
 
 pub returns-in_default : goal.returns-in_default
 returns-in_default c = record {
   on = stays c.args.self.now c.args.self.now refl refl;
-  value = λ e p side mk. same_step e c.args.self.now _ _ _ c.peek.ensures.seen (unshifted e _ p side mk _ (not_shift _ c.in_default.not-Shift));
+  value = λ e p side mk. same_step e c.args.self.now _ _ _ c.peek.ensures.seen (unshifted e _ p side mk _ c.in_default.not-Shift);
 }
 
 pub returns-in_default-peek : goal.returns-in_default-peek

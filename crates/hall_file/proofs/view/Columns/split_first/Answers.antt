@@ -1,27 +1,20 @@
 -- The first column lies at the front, and the others right after its groups.
 use Rattle.std.proofs.Common.{◌*◌, ◌<◌, List, length, refl, ap, ◌∙◌, arith}
-use Rattle.std.proofs.lemmas.List.{nil_from_length}
 use Rattle.readers.specs.Readers.{number}
 use Rattle.readers.proofs.Inverses.{none_some}
 use Rattle.hall_file.specs.declared.view.Columns.{Columns}
 use Rattle.hall_file.specs.Written.{Column}
 use Rattle.hall_file.specs.Views.{ShowsColumns}
-use Rattle.hall_file.proofs.Forms.{Lawful}
+use Rattle.hall_file.proofs.Laws.{lawful}
 use Rattle.hall_file.proofs.Looks.{FirstRead, first_read, cut, some_pair}
 use Rattle.hall_file.proofs.view.Columns.split_first.Given.{Over}
 use Rattle.hall_file.proofs.view.Columns.split_first.Goals as goal
 
-laws : (g : Over) → Lawful g.M.Measure.meaning g.M.Measure.found
-laws g = record { keeps = g.met.M.Measure.keeps; formed = g.met.M.Measure.formed; finds = g.met.M.Measure.found_by_its_kind; found_by = g.met.M.Measure.has_the_kind_it_is_found_by }
-
 -- what is read at the front, where there is a column
-start : (g : Over) (v : Columns) (cs : List (Column g.row.M.Denot g.row.M-Value.Denot)) → ShowsColumns g.M.Measure.meaning cs v → v.number < v.head.columns → FirstRead (laws g) v.head.fields v.head.rows cs v.bytes.now
+start : (g : Over) (v : Columns) (cs : List (Column g.row.M.Denot g.row.M-Value.Denot)) → ShowsColumns g.M.Measure.meaning cs v → v.number < v.head.columns → FirstRead (lawful g.met.M.Measure) v.head.fields v.head.rows cs v.bytes.now
 start g v cs sh l =
     let many = sh.many in
-    first_read (laws g) v.head.fields v.head.rows sh.fields_few sh.rows_few cs v.bytes.now (omega arith) sh.each sh.bytes
-
-pub returns-then-self : goal.returns-then-self
-returns-then-self g c cs sh = let many = sh.many in nil_from_length cs (omega arith)
+    first_read (lawful g.met.M.Measure) v.head.fields v.head.rows sh.fields_few sh.rows_few cs v.bytes.now (omega arith) sh.each sh.bytes
 
 pub returns-in_err-shape : goal.returns-in_err-shape
 returns-in_err-shape g c cs sh =
@@ -39,7 +32,7 @@ returns-in_err-bytes g c cs sh =
     let s = start g c.args.self cs sh (omega arith) in
     let p = some_pair _ _ _ _ (c.in_ok-shape.ensures.read ∙ s.shaped) in
     let q = some_pair _ _ _ _ (c.in_ok-left.ensures ∙ ap (number 2) p.1 ∙ s.counted) in
-    let within = (cut (laws g) s c.in_ok-shape.shape c.in_ok-left.left c.group_length.result _ c.in_ok-left.rest.now p.0 q.0 c.group_length.ensures.value (ap (λ n. n * c.group_length.result) c.from.ensures) q.1).within in
+    let within = (cut (lawful g.met.M.Measure) s c.in_ok-shape.shape c.in_ok-left.left c.group_length.result _ c.in_ok-left.rest.now p.0 q.0 c.group_length.ensures.value (ap (λ n. n * c.group_length.result) c.from.ensures) q.1).within in
     let short = c.in_err-bytes.ensures.cases in
     absurd (omega arith)
 
@@ -48,7 +41,7 @@ returns g c cs sh =
     let s = start g c.args.self cs sh (omega arith) in
     let p = some_pair _ _ _ _ (c.in_ok-shape.ensures.read ∙ s.shaped) in
     let q = some_pair _ _ _ _ (c.in_ok-left.ensures ∙ ap (number 2) p.1 ∙ s.counted) in
-    let k = cut (laws g) s c.in_ok-shape.shape c.in_ok-left.left c.group_length.result _ c.in_ok-left.rest.now p.0 q.0 c.group_length.ensures.value (ap (λ n. n * c.group_length.result) c.from.ensures) q.1 in
+    let k = cut (lawful g.met.M.Measure) s c.in_ok-shape.shape c.in_ok-left.left c.group_length.result _ c.in_ok-left.rest.now p.0 q.0 c.group_length.ensures.value (ap (λ n. n * c.group_length.result) c.from.ensures) q.1 in
     let parts = c.in_ok-bytes.ensures.cases in
     let many = sh.many in
     let one_less = ap length s.is in (

@@ -1,6 +1,5 @@
 -- The first group lies at the front, and the others right after it.
 use Rattle.std.proofs.Common.{◌≡◌, ◌<◌, ◌≤◌, List, length, sym, refl, subst, ap, ◌∙◌, arith}
-use Rattle.std.proofs.lemmas.List.{nil_from_length}
 use Rattle.measures.specs.Values.{most_rows}
 use Rattle.cells.specs.Columns.{Group, cell_of}
 use Rattle.readers.specs.Readers.{changed}
@@ -10,19 +9,16 @@ use Rattle.hall_file.specs.declared.view.Groups.{Groups}
 use Rattle.hall_file.specs.Reading.{group}
 use Rattle.hall_file.specs.Written.{width}
 use Rattle.hall_file.specs.Views.{ShowsGroups}
-use Rattle.hall_file.proofs.Forms.{Lawful}
+use Rattle.hall_file.proofs.Laws.{lawful}
 use Rattle.hall_file.proofs.Looks.{NextRead, next_read, some_pair}
 use Rattle.hall_file.proofs.view.Groups.split_first.Given.{Over}
 use Rattle.hall_file.proofs.view.Groups.split_first.Goals as goal
 
-laws : (g : Over) → Lawful g.M.Measure.meaning g.M.Measure.found
-laws g = record { keeps = g.met.M.Measure.keeps; formed = g.met.M.Measure.formed; finds = g.met.M.Measure.found_by_its_kind; found_by = g.met.M.Measure.has_the_kind_it_is_found_by }
-
 -- what is read at the front, where there is a group
-start : (g : Over) (v : Groups g.row.M.Denot) (s : ColumnShape g.row.M.Denot) (gs : List (Group g.row.M-Value.Denot)) → ShowsGroups g.M.Measure.meaning s gs v → 0 < v.left → NextRead (laws g) s gs v.bytes.now
+start : (g : Over) (v : Groups g.row.M.Denot) (s : ColumnShape g.row.M.Denot) (gs : List (Group g.row.M-Value.Denot)) → ShowsGroups g.M.Measure.meaning s gs v → 0 < v.left → NextRead (lawful g.met.M.Measure) s gs v.bytes.now
 start g v s gs sh l =
     let many = sh.many in
-    next_read (laws g) s sh.wide gs v.bytes.now (omega arith) sh.few sh.each sh.bytes
+    next_read (lawful g.met.M.Measure) s sh.wide gs v.bytes.now (omega arith) sh.few sh.each sh.bytes
 
 -- the same at the view's own shape
 reads_here : (g : Over) (v : Groups g.row.M.Denot) (s : ColumnShape g.row.M.Denot) (gs : List (Group g.row.M-Value.Denot)) (sh : ShowsGroups g.M.Measure.meaning s gs v) (l : 0 < v.left) → group g.M.Measure.meaning v.shape most_rows v.bytes.now ≡ group g.M.Measure.meaning s most_rows v.bytes.now
@@ -30,9 +26,6 @@ reads_here g v s gs sh l = ap (λ x. group g.M.Measure.meaning x most_rows v.byt
 
 narrow : (g : Over) (v : Groups g.row.M.Denot) (s : ColumnShape g.row.M.Denot) (gs : List (Group g.row.M-Value.Denot)) → ShowsGroups g.M.Measure.meaning s gs v → width v.shape ≤ 4
 narrow g v s gs sh = subst (λ x. width x ≤ 4) (sym sh.shape) sh.wide
-
-pub returns-then-self-eq0 : goal.returns-then-self-eq0
-returns-then-self-eq0 g c s gs sh = let many = sh.many in nil_from_length gs (omega arith)
 
 pub returns-in_err-cell : goal.returns-in_err-cell
 returns-in_err-cell g c s gs sh =

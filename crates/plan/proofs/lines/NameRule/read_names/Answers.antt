@@ -3,7 +3,8 @@ use Rattle.std.proofs.lemmas.Result.{err_from_is_err_and, IfOk-from_err}
 use Rattle.words.specs.Cutting.{to_come}
 use Rattle.words.specs.Tables.{texts}
 use Rattle.plan.specs.Lines.{ends_line}
-use Rattle.plan.proofs.Motions.{fails, advanced, names_end, names_first, names_more, later_shorter}
+use Rattle.plan.proofs.Motions.{fails, advanced, names_end, names_first, names_more}
+use Rattle.conditions.proofs.Moves.{later_shorter}
 use Rattle.plan.proofs.lines.NameRule.read_names.Goals as goal
 
 pub returns-in_err-read_name : goal.returns-in_err-read_name

@@ -9,7 +9,7 @@ use Rattle.plan.proofs.lines.NameRule.read_new.Goals as goal
 pub returns-in-Err-clause-value : goal.returns-in-Err-clause-value
 returns-in-Err-clause-value c = λ st.
     ap (λ k. onto c.args.words.now (admit st (texts c.args.names.now) c.args.self.most k)) (sym (c.in-Err.ensures ∙ ap (declared c.args.self.upper) c.peek.ensures.seen))
-    ∙ ap (onto c.args.words.now) (no_name_halts st (texts c.args.names.now) c.args.self.most c.in-Err.no_name ∙ ap halt (sym c.wrong.ensures))
+    ∙ ap (onto c.args.words.now) (no_name_halts st (texts c.args.names.now) c.args.self.most c.in-Err.no_name ∙ ap halt (sym c.from.ensures))
     ∙ halted _ _ _ c.at.ensures
 
 pub returns-then-is_some-clause-value : goal.returns-then-is_some-clause-value

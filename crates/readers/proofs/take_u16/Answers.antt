@@ -1,9 +1,0 @@
-use Rattle.std.proofs.Common.{◌-◌, ◌≤◌, length, take, drop, Some, sym, ap, ◌∙◌, arith, ltb-false}
-use Rattle.readers.proofs.Steps.{number_two}
-use Rattle.readers.proofs.take_u16.Goals as goal
-
-pub returns : goal.returns
-returns c =
-    let l : 2 ≤ length c.args.bytes.now = omega (arith, ltb-false) in
-    let e = number_two c.args.bytes.now l (c.type_inv.bytes 0).fits (c.type_inv.bytes 1).fits in
-    ap (λ n. Some (n, take (length c.args.bytes.now - 2) (drop 2 c.args.bytes.now))) c.from_le_bytes.ensures ∙ sym e
