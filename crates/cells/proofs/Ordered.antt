@@ -57,6 +57,10 @@ less_greater p q e = flip q p ∙ ap ordering_reverse e
 pub greater_less : (p q : GroupId) → order p q ≡ Greater → order q p ≡ Less
 greater_less p q e = flip q p ∙ ap ordering_reverse e
 
+-- before one that is before p
+pub trans_greater : (p q r : GroupId) → order p q ≡ Greater → order r q ≡ Less → order p r ≡ Greater
+trans_greater p q r e f = less_greater r p (trans r q p f (greater_less p q e))
+
 -- groups of one column go by their keys
 pub same_column : (p q : GroupId) (r : Ordering) → p.column ≡ q.column → order p q ≡ r → key_order p.key q.key ≡ r
 unfolding order

@@ -114,9 +114,8 @@ impl<V> Ord for Place<V> {
 
     ghost matches_eq = { λ x y. refl };
 
-    #[tactic(auto, unfolding(crate::specs::Order::order))]
     fn cmp(&self, other: &Place<V>) -> Ordering {
-        self.cell.id.cmp(&other.cell.id)
+        self.cell.id.order(&other.cell.id)
     }
 }
 

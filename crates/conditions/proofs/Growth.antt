@@ -16,6 +16,9 @@ on_top c t ts e = (e ∙ ap (λ u. u ∷ ts) (sym (ap topmost e)), ap topmost e)
 -- a step after another
 module _ (c d : Condition) (used : d.used ≡ c.used + 1) where
   -- a comparison that is counted
+  pub leaf_room : (r s : Reader) (depth : ℕ) → Room r c depth → r.comparisons < s.comparisons → s.comparisons ≤ 16 → c.used < 159
+  leaf_room r s depth h m f = omega (arith, h.room, m, f)
+
   pub leaf_grown : (r s : Reader) (depth : ℕ) (k : Comparison) → Room r c depth → r.comparisons < s.comparisons → s.comparisons ≤ 16 → trees d ≡ grow (Compare k) (trees c) → Grown (trees c) d s depth × (tree d ≡ compare k)
   leaf_grown r s depth k h m f e =
       let t = on_top d (compare k) (trees c) e in
@@ -39,3 +42,17 @@ module _ (c d : Condition) (used : d.used ≡ c.used + 1) where
 -- the same trees below
 pub same_grown : (ts us : List Tree) (c : Condition) (s : Reader) (depth : ℕ) → ts ≡ us → Grown ts c s depth → Grown us c s depth
 same_grown ts us c s depth e g = record { one = g.one ∙ ap (λ l. tree c ∷ l) e; room = g.room; few = g.few }
+
+-- room for one more step
+pub not_room : (ts : List Tree) (c : Condition) (s : Reader) (depth : ℕ) → depth < 8 → Grown ts c s depth → c.used < 159
+not_room ts c s depth d g = omega (arith, d, g.room, g.few, ap length g.one)
+
+pub joint_room : (ts us : List Tree) (b c : Condition) (q s : Reader) (depth : ℕ) → depth ≤ 8 → Grown ts b q depth → Grown (trees b) c s depth → c.used < 159
+joint_room ts us b c q s depth d g h = omega (arith, d, h.room, h.few, ap length h.one, ap length g.one)
+
+-- room for what comes next
+pub next_room : (ts : List Tree) (c : Condition) (s u : Reader) (depth : ℕ) → depth ≤ 8 → Grown ts c s depth → s.comparisons ≤ u.comparisons → Room u c depth
+next_room ts c s u depth d g m = record { shallow = d; room = omega (arith, d, g.room, m) }
+
+pub inner_room : (c : Condition) (r s : Reader) (depth : ℕ) → Room r c depth → r.comparisons ≤ s.comparisons → Room s c (depth - 1)
+inner_room c r s depth h m = record { shallow = omega (arith, h.shallow); room = omega (arith, h.room, m) }

@@ -157,6 +157,12 @@ module _ (e : Names) (r : Reader) (p : Place) (side : Side) where
 pub noted_more : (σ : Seen) (f : ℕ) → get_or σ.fields f false ≡ false → true ≡ ltb σ.different 4 → noted σ f ≡ Some (record { comparisons = σ.comparisons; different = σ.different + 1; fields = set σ.fields f true })
 noted_more σ f g l = cond-false (get_or σ.fields f false) _ _ g ∙ cond-true (ltb σ.different 4) _ _ (sym l)
 
+pub noted_same : (σ : Seen) (f : ℕ) → get_or σ.fields f false ≡ true → noted σ f ≡ Some σ
+noted_same σ f g = cond-true (get_or σ.fields f false) _ _ g
+
+pub noted_none : (σ : Seen) (f : ℕ) → get_or σ.fields f false ≡ false → false ≡ ltb σ.different 4 → noted σ f ≡ None
+noted_none σ f g l = cond-false (get_or σ.fields f false) _ _ g ∙ cond-false (ltb σ.different 4) _ _ (sym l)
+
 -- a comparison's first word
 module _ (e : Names) (r : Reader) (p : Place) where
   firsts : (f : Result Found Fault) → found e (ahead r) ≡ f → onto e r (first (seen_by r) p (found e (ahead r))) ≡ onto e r (first (seen_by r) p f)
@@ -240,3 +246,8 @@ unended σ t None a b c = refl
 
 pub not_ended : (e : Names) (r : Reader) (t : Tree) (y : Refusal) → NoAnd r → NoOr r → (joining (ahead r) ≡ Some End → ⊥) → y ≡ refusal form (here r.words) → rest e r (after None t []) ≡ refused y
 not_ended e r t y a b c g = refuses e r (after None t []) _ form y refl (unended (seen_by r) t (joining (ahead r)) a b c) g
+
+-- a joint is a word, so that one word fewer is to come after it
+pub joint_falls : (xs : List Lexeme) (j : Option Joining) → j ≡ joining (next xs) → (j ≡ None → ⊥) → length (later xs) < length xs
+joint_falls [] j h n = absurd (n h)
+joint_falls (x ∷ xs) j h n = omega arith

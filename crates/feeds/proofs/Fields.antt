@@ -1,10 +1,11 @@
 -- The fields of a line, one after another. Assumes nothing.
-use Rattle.std.proofs.Common.{◌≡◌, ℕ, zero, suc, ◌+◌, ◌<◌, ◌≤◌, Bool, true, false, cond, ◌&&◌, eqb, leb, ◌⊎◌, List, [], ◌∷◌, ◌++◌, map, length, get_or, drop, ℤ, Some, None, Option, sym, refl, ap, ◌∙◌, subst, inl, inr, arith}
+use Rattle.std.proofs.Common.{◌≡◌, ℕ, zero, suc, ◌+◌, ◌<◌, ◌≤◌, Bool, true, false, cond, ◌&&◌, eqb, ltb, leb, ◌⊎◌, List, [], ◌∷◌, ◌++◌, map, length, get_or, drop, ℤ, Some, None, Option, sym, refl, ap, ◌∙◌, subst, inl, inr, arith}
 use Rattle.std.proofs.lemmas.List.{append_assoc, length_push, length-append, length-take, get_or_append_left, get_or_at, drop_at}
-use Rattle.std.proofs.lemmas.Bool.{cond-true, cond-false, ne_eqb, and_left, and_from, le-leb, cases_lt, cases_Bool}
+use Rattle.std.proofs.lemmas.Bool.{cond-true, cond-false, ne_eqb, and_left, and_right, and_from, le-ltb, le-leb, cases_lt, cases_Bool}
 use Rattle.text.specs.Numbers.{front, number}
 use Rattle.text.proofs.Words.{longer_number, whole_front, front_begins}
 use Rattle.feeds.specs.Sheets.{split, lines_of, before, numbers, of_width, row_of, sheet}
+use Rattle.feeds.specs.Makings.{is_width}
 use Rattle.feeds.proofs.Parts.{Cutting, uncut, cut_at, longer, first_line, Split, split_first, split_some, lines_more, Clear, Spaced, Lined, piece, first_lined, first_clear, first_spaced, words_more, words_one, clear_at, front_before}
 
 -- what the fields of a line give: nothing, or their numbers and the text after the line
@@ -299,3 +300,26 @@ sheet_bad (suc j) t some e h = go (first_line t) (split_first t) e
     go : (x : Cutting) → Split t (split 10 t) x → of_line (suc j) x ≡ bad → (more : List (Option (List ℤ))) × (sheet (suc j) t ≡ None ∷ more)
     go uncut s e = ([], sheet_uncut (suc j) t s h)
     go (cut_at line more) s e = (sheet (suc j) more, sheet_cut (suc j) t line more s ∙ ap (λ o. o ∷ sheet (suc j) more) (of_width_bad (suc j) more (numbers (split 32 line)) e))
+
+-- no line writes a row of a width out of range
+of_width_none : (w : ℕ) (line : List ℕ) → is_width w ≡ false → of_width w (numbers (split 32 line)) ≡ None
+of_width_none w line out = go (numbers (split 32 line)) refl
+  where
+    go : (o : Option (List ℤ)) → numbers (split 32 line) ≡ o → of_width w o ≡ None
+    go None e = refl
+    go (Some zs) e = cond-false (eqb (length zs) w && leb w 8) _ _ (test (cases_lt w 1) (cases_Bool (eqb (length zs) w)))
+      where
+        some : 0 < length zs
+        some = numbers_some (split 32 line) zs (split_some 32 line) e
+
+        test : (w < 1) ⊎ (1 ≤ w) → (eqb (length zs) w ≡ true) ⊎ (eqb (length zs) w ≡ false) → (eqb (length zs) w && leb w 8) ≡ false
+        test (inl h) t = and_left _ _ (ne_eqb (length zs) w (λ q. omega (arith, q, h, some)))
+        test (inr h) t = and_right _ _ (sym (cond-false (ltb w 1) false (leb w 8) (le-ltb w 1 h)) ∙ out)
+
+-- so the first line of a sheet so wide is bad
+pub sheet_none : (w : ℕ) (t : List ℕ) → is_width w ≡ false → 0 < length t → (more : List (Option (List ℤ))) × (sheet w t ≡ None ∷ more)
+sheet_none w t out h = go (first_line t) (split_first t)
+  where
+    go : (x : Cutting) → Split t (split 10 t) x → (more : List (Option (List ℤ))) × (sheet w t ≡ None ∷ more)
+    go uncut s = ([], sheet_uncut w t s h)
+    go (cut_at line more) s = (sheet w more, sheet_cut w t line more s ∙ ap (λ o. o ∷ sheet w more) (of_width_none w line out))

@@ -1,5 +1,5 @@
 // The check of a file.
-ghost use Rattle.std.specs.Prelude.{◌≡◌, ℕ, List, ◌++◌, Ok, Result};
+ghost use Rattle.std.specs.Prelude.{◌≡◌, ℕ, List, ◌++◌, length, Ok, Result, ◌==◌};
 ghost use Rattle.text.specs.declared.refusal.Refusal.{Refusal as Refused};
 ghost use Rattle.hall_file.specs.declared.view.View.{View as Viewed};
 ghost use Rattle.hall_file.specs.Written.{Content, file_bytes};
@@ -23,12 +23,19 @@ pub fn first_file<M: Measure>(bytes: &[u8]) -> Option<(View<'_>, &[u8])>
     Some((View { head, body }, rest))
 }
 
+// Whether no byte is left: what the check goes by, under a contract of its own.
+fn is_end(rest: &[u8]) -> bool
+    ensures { result ≡ (length rest.now == 0) }
+{
+    rest.is_empty()
+}
+
 // The file in bytes that are well made; 7 otherwise.
 pub fn check<M: Measure>(bytes: &[u8]) -> Result<View<'_>, Refusal>
     ensures { Checked M.Measure.meaning bytes.now result }
 {
     let (view, rest) = first_file::<M>(bytes).ok_or(Refusal::FileForm)?;
-    if rest.is_empty() {
+    if is_end(rest) {
         Ok(view)
     } else {
         Err(Refusal::FileForm)

@@ -75,3 +75,7 @@ values_at ks i h = ap (flat_map int_bytes) (drop_more ks i (pos 0) h)
 -- the values of a key in their places are those that are written
 pub key_values : (k w : ℕ) (ks : List ℤ) → length ks ≡ 4 → k ≡ min w 4 → flat_map int_bytes (take k ks) ≡ key_bytes w ks
 key_values k w ks four e = ap (λ n. flat_map int_bytes (take n ks)) (e ∙ ap (min w) (sym four)) ∙ ap (flat_map int_bytes) (take_min w ks)
+
+-- a part less is left of the room
+pub room_less : (left whole room rest part rest' left' : ℕ) → left + whole ≡ room + rest → rest ≡ part + rest' → left' + part ≡ left → left' + whole ≡ room + rest'
+room_less left whole room rest part rest' left' a b c = omega arith

@@ -4,9 +4,11 @@
 #![tactic(auto)]
 
 use plan::reading::read_plan;
-use std::alloc::{AllocError, Global};
 use std::io;
 use text::refusal::Refusal;
+
+// Room for a text of one byte more than a plan may have, and some.
+const ROOM: usize = 5000;
 
 // What a plan gives.
 #[derive(Clone, Copy, PartialEq, Eq, Debug)]
@@ -16,7 +18,7 @@ enum Given {
         columns: usize,
     },
     Refused {
-        number: u8,
+        number: usize,
         line: usize,
         word: usize,
     },
@@ -32,7 +34,7 @@ impl From<Refusal> for Given {
             _ => (0, 0),
         };
         Given::Refused {
-            number: refusal.number(),
+            number: usize::from(refusal.number()),
             line,
             word,
         }
@@ -49,12 +51,21 @@ fn outcome(text: &[u8]) -> Given {
     }
 }
 
-// What a line says that its plan gives, and the plan, if the line has the form of one.
-fn case_of(line: &str) -> Option<(Given, &str)> {
+// The number that a part of a line writes, each byte taken for a digit; 0 where there is no such part.
+fn number_of(part: Option<&str>) -> usize {
+    part.unwrap_or("").bytes().fold(0, |value: usize, byte| {
+        value
+            .wrapping_mul(10)
+            .wrapping_add(usize::from(byte).wrapping_sub(48))
+    })
+}
+
+// What a line says that its plan gives, and the plan.
+fn case_of(line: &str) -> (Given, &str) {
     let mut parts = line.splitn(4, ' ');
-    let number: u8 = parts.next()?.parse().ok()?;
-    let first: usize = parts.next()?.parse().ok()?;
-    let second: usize = parts.next()?.parse().ok()?;
+    let number = number_of(parts.next());
+    let first = number_of(parts.next());
+    let second = number_of(parts.next());
     let given = match number {
         0 => Given::Accepted {
             rows: first,
@@ -66,16 +77,23 @@ fn case_of(line: &str) -> Option<(Given, &str)> {
             word: second,
         },
     };
-    Some((given, parts.next()?))
+    (given, parts.next().unwrap_or(""))
+}
+
+// The text of a plan, in a room for it; what goes past the room is left out, and the text is too long all the same.
+fn text_in<'r>(room: &'r mut [u8; ROOM], plan: &str) -> &'r [u8] {
+    let used = plan.len().min(ROOM);
+    for (place, byte) in room[..used].iter_mut().zip(plan.bytes()) {
+        *place = if byte == b'|' { b'\n' } else { byte };
+    }
+    &room[..used]
 }
 
 // Whether a line's plan gives what stands before it.
-fn is_right(alloc: Global, line: &str) -> Result<bool, AllocError> {
-    let Some((given, plan)) = case_of(line) else {
-        return Ok(false);
-    };
-    let text = plan.replace(alloc, '|', "\n")?;
-    Ok(outcome(text.as_bytes()) == given)
+fn is_right(line: &str) -> bool {
+    let (given, plan) = case_of(line);
+    let mut room = [0; ROOM];
+    outcome(text_in(&mut room, plan)) == given
 }
 
 fn main(rt: HostRuntime) -> io::Result<()> {
@@ -84,7 +102,7 @@ fn main(rt: HostRuntime) -> io::Result<()> {
     for line in rt.lines(rt.alloc()) {
         let line = line?;
         plans = plans.wrapping_add(1);
-        if !is_right(rt.alloc(), &line)? {
+        if !is_right(&line) {
             wrong = wrong.wrapping_add(1);
             println!(rt; "wrong at line {plans}")?;
         }

@@ -1,3 +1,4 @@
 pub mod Fronts
 pub mod Words
 pub mod Writing
+pub mod Shorts

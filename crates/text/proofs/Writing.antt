@@ -2,10 +2,24 @@
 use Rattle.std.proofs.Common.{◌≡◌, ℕ, true, false, None, Option, subst, ◌+◌, ◌-◌, ◌≤◌, Bool, List, ◌++◌, length, take, drop, ℤ, Some, sym, refl, ap, ◌∙◌, arith}
 use Rattle.std.specs.Prelude.{IfSome, if◌then◌else◌}
 use Rattle.std.proofs.lemmas.Bool.{leb-true}
-use Rattle.std.proofs.lemmas.List.{length-take-le, take_at, drop_at}
+use Rattle.std.proofs.lemmas.List.{append_assoc, length-append, length-take-le, take_at, drop_at, drop-drop}
 use Rattle.measures.specs.Values.{RowValue}
 use Rattle.text.specs.Numbers.{number, over, written, has_room}
 use Rattle.text.proofs.Words.{back}
+
+-- bytes written behind others are all of them written
+pub over_over : (at : ℕ) (a b old : List ℕ) → at + length a ≤ length old → over (at + length a) b (over at a old) ≡ over at (a ++ b) old
+over_over at a b old h =
+    let front = take at old ++ a in
+    let rest = drop (at + length a) old in
+    let l : length front ≡ at + length a = length-append (take at old) a ∙ ap (λ n. n + length a) (length-take-le at old (omega (arith, h))) in
+    let e : over at a old ≡ front ++ rest = sym (append_assoc (take at old) a rest) in
+    let t : take (at + length a) (over at a old) ≡ front = ap (take (at + length a)) e ∙ take_at front rest _ l in
+    let d : drop (at + length a + length b) (over at a old) ≡ drop (at + length (a ++ b)) old =
+    sym (drop-drop (length b) (at + length a) (over at a old)) ∙ ap (drop (length b)) (ap (drop (at + length a)) e ∙ drop_at front rest _ l)
+    ∙ drop-drop (length b) (at + length a) old ∙ ap (λ n. drop n old) (omega (arith, length-append a b)) in
+    ap (λ x. x ++ (b ++ drop (at + length a + length b) (over at a old))) t ∙ ap (λ x. front ++ (b ++ x)) d
+    ∙ append_assoc (take at old) a (b ++ drop (at + length (a ++ b)) old) ∙ ap (λ x. take at old ++ x) (sym (append_assoc a b (drop (at + length (a ++ b)) old)))
 
 -- what was written is found where it was written
 pub over_there : (at : ℕ) (bytes old : List ℕ) → at + length bytes ≤ length old → take (length bytes) (drop at (over at bytes old)) ≡ bytes

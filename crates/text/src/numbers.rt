@@ -1,5 +1,5 @@
 // Numbers as text: `0`, or one to nine digits without a leading zero, with `-` before a negative one.
-ghost use Rattle.std.specs.Prelude.{◌≡◌, ◌+◌, ◌-◌, ◌*◌, ◌^◌, ◌<◌, ◌≤◌, not, ◌&&◌, ltb, length, take, drop, IfSome, if◌then◌else◌, Some, None, ◌==◌, nat_le, nat_lt};
+ghost use Rattle.std.specs.Prelude.{◌≡◌, ◌+◌, ◌-◌, ◌*◌, ◌^◌, ◌<◌, ◌≤◌, not, ◌&&◌, ltb, length, take, drop, IfSome, if◌then◌else◌, Some, None, decimal, ◌==◌, nat_le, nat_lt};
 ghost use Rattle.measures.specs.Values.{RowValue};
 ghost use Rattle.std.specs.Char.{is_ascii_digit};
 ghost use Rattle.text.specs.Numbers.{read_on, unsigned, number, positive, negative, front, digits_front, written, over, has_room, Exactly};
@@ -173,6 +173,36 @@ fn put(bytes: &[u8], buffer: &mut [u8], at: usize) -> Option<usize>
     Some(end)
 }
 
+// The byte of a digit.
+fn digit_byte(digit: u64) -> u8
+    requires { digit < 10 }
+    ensures { result ≡ 48 + digit }
+{
+    // below ten, so that `as` is proved to lose nothing
+    b'0' + digit as u8
+}
+
+// Puts a number of three digits at most into a buffer from a place on, as `put` does. Most numbers of a standing are so short,
+// and to copy so few bytes from another buffer takes several times as long as to find them.
+fn put_short(n: u64, buffer: &mut [u8], at: usize) -> Option<usize>
+    requires { n < 1000 }
+    ensures answer { result ≡ (if has_room at (decimal n) buffer.old then Some (at + length (decimal n)) else None) }
+    ensures bytes { buffer.new ≡ (if has_room at (decimal n) buffer.old then over at (decimal n) buffer.old else buffer.old) }
+{
+    if n < 10 {
+        return put(&[digit_byte(n)], buffer, at);
+    }
+    let ones = digit_byte(n % 10);
+    if n < 100 {
+        return put(&[digit_byte(n / 10), ones], buffer, at);
+    }
+    put(
+        &[digit_byte(n / 100), digit_byte(n / 10 % 10), ones],
+        buffer,
+        at,
+    )
+}
+
 // Writes a number in decimal into a buffer from a place on, and answers the place after it.
 // Without room for all of it nothing is written.
 pub fn write_number(value: i64, buffer: &mut [u8], at: usize) -> Option<usize>
@@ -180,6 +210,9 @@ pub fn write_number(value: i64, buffer: &mut [u8], at: usize) -> Option<usize>
     ensures bytes { buffer.new ≡ (if has_room at (written value) buffer.old then over at (written value) buffer.old else buffer.old) }
     ensures back { RowValue value → IfSome result (λ end. number (take (end - at) (drop at buffer.new)) ≡ Some value) }
 {
+    if (0..1000).contains(&value) {
+        return put_short(value.cast_unsigned(), buffer, at);
+    }
     let mut digits = itoa::Buffer::new();
     put(digits.format(value).as_bytes(), buffer, at)
 }

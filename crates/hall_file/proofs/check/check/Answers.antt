@@ -8,12 +8,12 @@ use Rattle.hall_file.proofs.Forms.{one_file}
 use Rattle.hall_file.proofs.Laws.{lawful}
 use Rattle.hall_file.proofs.check.check.Goals as goal
 
-pub returns-else-is_empty : goal.returns-else-is_empty
-returns-else-is_empty g c =
+pub returns-else-is_end : goal.returns-else-is_end
+returns-else-is_end g c =
     let q = subst (FirstFile g.M.Measure.meaning c.args.bytes.now) c.in_ok-view.ensures.ok_part c.first_file.ensures in
     let rest = c.in_ok-view.rest.now in (
       refl,
       λ w.
           let nil = (one_file (lawful g.met.M.Measure) q.0 w.0 rest [] q.1 w.1 (sym q.2 ∙ w.2 ∙ sym (append-nil (file_bytes g.M.Measure.meaning w.0)))).1 in
-          both_ways (eqb (length rest) 0) (sym c.if-is_empty.ensures) (eq-eqb (length rest) 0 (ap length nil)),
+          both_ways (eqb (length rest) 0) (sym c.if-is_end.ensures) (eq-eqb (length rest) 0 (ap length nil)),
     )
